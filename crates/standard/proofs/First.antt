@@ -1,0 +1,79 @@
+-- Laws of the first test that applies. Assumes nothing.
+use mathlib.Core.Path.{_≡_, refl, sym, ap, _∙_}
+use Prim.Native.Nat.{ℕ, zero, suc, _+_, _<_}
+use mathlib.Core.Bool.{Bool, true, false, cond, _&&_}
+use mathlib.Core.List.{List, [], _∷_, _++_}
+use native.Mathlib.Nat.{not-suc-le-zero, add-zero, add-suc, suc-add, zero-lt-suc}
+use native.Mathlib.Omega.{arith}
+use lib.Dec.{T, ltb, ltb→lt}
+use lib.ListN.{length, getD}
+use Rattle.standard.specs.Lists.{listFrom}
+use Rattle.standard.specs.First.{Test, test, first}
+use Rattle.standard.proofs.Lists.{and-left, and-right}
+
+pub first-hit : (n : ℕ) (b : Bool) (ts : List Test) → b ≡ true → n ≡ first (test n b ∷ ts)
+unfolding first
+first-hit n b ts e = rw e
+
+pub first-skip : (m n : ℕ) (b : Bool) (ts : List Test) → b ≡ false → m ≡ first ts → m ≡ first (test n b ∷ ts)
+unfolding first
+first-skip m n b ts e r = rw e r
+
+-- no test has the number 0
+abbrev pub numbered : List Test → Bool
+numbered [] = true
+numbered (t ∷ ts) = ltb 0 (t .number) && numbered ts
+
+-- none of them applies
+abbrev pub None : List Test → Type 0
+None [] = Unit {0}
+None (t ∷ ts) = (t .applies ≡ false) × None ts
+
+-- 'only when its condition holds': 0 is answered where no test applies, and only there
+pub first-none : (ts : List Test) → None ts → first ts ≡ 0
+unfolding first
+first-none [] p = refl
+first-none (t ∷ ts) p = rw (p .0) (first-none ts (p .1))
+
+pub none-first : (ts : List Test) → T (numbered ts) → first ts ≡ 0 → None ts
+unfolding first
+none-first [] p e = tt
+none-first (t ∷ ts) p e = go (none-first ts (and-right (ltb 0 (t .number)) (numbered ts) p)) (t .applies) refl
+  where
+    go : (first ts ≡ 0 → None ts) → (b : Bool) → t .applies ≡ b → (t .applies ≡ false) × None ts
+    go ih true q = absurd (omega (arith, ltb→lt 0 (t .number) (and-left (ltb 0 (t .number)) (numbered ts) p), rw q at e))
+    go ih false q = (q, ih (rw q at e))
+
+-- test k of them, counted from 0
+pub none-at : (ts : List Test) → None ts → (k : ℕ) → k < length ts → (d : Test) → getD ts k d .applies ≡ false
+none-at [] p k h d = absurd (not-suc-le-zero h)
+none-at (t ∷ ts) p zero h d = p .0
+none-at (t ∷ ts) p (suc k) h d = none-at ts (p .1) k (omega arith) d
+
+pub none-append : (ts us : List Test) → None ts → None us → None (ts ++ us)
+none-append [] us p q = q
+none-append (t ∷ ts) us p q = (p .0, none-append ts us (p .1) q)
+
+pub none-listFrom : (f : ℕ → Test) (i n : ℕ) → ((k : ℕ) → k < n → f (i + k) .applies ≡ false) → None (listFrom f i n)
+unfolding listFrom
+none-listFrom f i zero h = tt
+none-listFrom f i (suc n) h =
+    (ap (λ (k : ℕ). f k .applies) (sym (add-zero i)) ∙ h zero (zero-lt-suc n),
+    none-listFrom f (suc i) n (λ k l. ap (λ (j : ℕ). f j .applies) (suc-add i k ∙ sym (add-suc i k)) ∙ h (suc k) (omega arith)))
+
+-- a list of tests of which none applies is passed over
+pub first-append : (ts us : List Test) → None ts → first (ts ++ us) ≡ first us
+unfolding first
+first-append [] us p = refl
+first-append (t ∷ ts) us p = rw (p .0) (first-append ts us (p .1))
+
+-- one that answers a number answers it whatever follows
+pub first-left : (ts us : List Test) → 0 < first ts → first (ts ++ us) ≡ first ts
+unfolding first
+first-left [] us h = absurd (not-suc-le-zero h)
+first-left (t ∷ ts) us h = go (first-left ts us) (t .applies) refl
+  where
+    go : (0 < first ts → first (ts ++ us) ≡ first ts) → (b : Bool) → t .applies ≡ b
+        → cond (t .applies) (t .number) (first (ts ++ us)) ≡ cond (t .applies) (t .number) (first ts)
+    go ih true q = rw q
+    go ih false q = rw q (ih (rw q at h))

@@ -1,0 +1,54 @@
+-- Laws of octets: both laws of V.90 Table 1, there and back, by one computed test over the table. Assumes nothing.
+use mathlib.Core.Path.{_≡_, refl, ap, _∙_}
+use Prim.Native.Nat.{ℕ, _%_, _<_}
+use mathlib.Core.Bool.{Bool, true, false, _&&_, Bool·beq}
+use native.Mathlib.Nat.{mod-lt}
+use lib.Dec.{T, eqb, ltb, eqb→eq, ltb→lt, lit<}
+use Rattle.standard.specs.Octets.{positiveOctet, octet, signOf, ucodeOf}
+use Rattle.standard.specs.declared.Law.{Law}
+use Rattle.standard.specs.declared.Law.the-variants.{Mu, A}
+use Rattle.standard.proofs.Lists.{every, every-at, and-left, and-right, beq→eq}
+
+-- ---- the rows of Table 1
+
+abbrev rowBack : Law → Bool → ℕ → Bool
+rowBack l s u = ltb (octet l s u) 256 && (Bool·beq (signOf (octet l s u)) s && eqb (ucodeOf l (octet l s u)) u)
+
+rows-back : (l : Law) (s : Bool) → T (every (rowBack l s) 128)
+unfolding positiveOctet octet signOf ucodeOf
+rows-back Mu true = tt
+rows-back Mu false = tt
+rows-back A true = tt
+rows-back A false = tt
+
+module _ (l : Law) (s : Bool) (u : ℕ) (h : u < 128) where
+  row : T (rowBack l s u)
+  row = every-at (rowBack l s) 128 (rows-back l s) u h
+
+  both : T (Bool·beq (signOf (octet l s u)) s && eqb (ucodeOf l (octet l s u)) u)
+  both = and-right (ltb (octet l s u) 256) _ row
+
+  pub octet-lt : octet l s u < 256
+  octet-lt = ltb→lt (octet l s u) 256 (and-left (ltb (octet l s u) 256) _ row)
+
+  pub sign-back : signOf (octet l s u) ≡ s
+  sign-back = beq→eq (signOf (octet l s u)) s (and-left (Bool·beq (signOf (octet l s u)) s) _ both)
+
+  pub ucode-back : ucodeOf l (octet l s u) ≡ u
+  ucode-back = eqb→eq (ucodeOf l (octet l s u)) u (and-right (Bool·beq (signOf (octet l s u)) s) _ both)
+
+pub ucode-lt : (l : Law) (o : ℕ) → ucodeOf l o < 128
+unfolding ucodeOf
+ucode-lt l o = mod-lt (positiveOctet l o) (lit< tt)
+
+-- every octet is that of its own sign and Ucode
+abbrev octetBack : Law → ℕ → Bool
+octetBack l o = eqb (octet l (signOf o) (ucodeOf l o)) o
+
+octets-back : (l : Law) → T (every (octetBack l) 256)
+unfolding positiveOctet octet signOf ucodeOf
+octets-back Mu = tt
+octets-back A = tt
+
+pub octet-back : (l : Law) (o : ℕ) → o < 256 → octet l (signOf o) (ucodeOf l o) ≡ o
+octet-back l o h = eqb→eq (octet l (signOf o) (ucodeOf l o)) o (every-at (octetBack l) 256 (octets-back l) o h)

@@ -1,0 +1,43 @@
+-- Laws of the differential coding of signs. Assumes nothing.
+use mathlib.Core.Path.{_≡_, refl, ap, ap₂}
+use Prim.Native.Nat.{zero, suc, _<_}
+use mathlib.Core.Bool.{Bool}
+use mathlib.Core.List.{List, [], _∷_, _++_}
+use native.Mathlib.Nat.{not-suc-le-zero}
+use lib.ListN.{length}
+use Rattle.standard.specs.Bits.{_⊕_}
+use Rattle.standard.specs.Signs.{signsOf, signBits}
+use Rattle.standard.proofs.Bits.{xor-cancel}
+
+pub length-signsOf : (g : Bool) (ss : List Bool) → length (signsOf g ss) ≡ length ss
+unfolding signsOf
+length-signsOf g [] = refl
+length-signsOf g (s ∷ ss) = ap suc (length-signsOf (s ⊕ g) ss)
+
+pub length-signBits : (g : Bool) (ts : List Bool) → length (signBits g ts) ≡ length ts
+unfolding signBits
+length-signBits g [] = refl
+length-signBits g (t ∷ ts) = ap suc (length-signBits t ts)
+
+pub signs-back : (g : Bool) (ss : List Bool) → signBits g (signsOf g ss) ≡ ss
+unfolding signsOf signBits
+signs-back g [] = refl
+signs-back g (s ∷ ss) = ap₂ _∷_ (xor-cancel s g) (signs-back (s ⊕ g) ss)
+
+-- a receiver whose last sign was g′ where the sender's was g may take the first bit wrong, and no other
+abbrev pub taken : Bool → Bool → List Bool → List Bool
+taken g g′ [] = []
+taken g g′ (s ∷ ss) = (s ⊕ g ⊕ g′) ∷ ss
+
+pub signs-taken : (g g′ : Bool) (ss : List Bool) → signBits g′ (signsOf g ss) ≡ taken g g′ ss
+unfolding signsOf signBits
+signs-taken g g′ [] = refl
+signs-taken g g′ (s ∷ ss) = ap (λ (r : List Bool). (s ⊕ g ⊕ g′) ∷ r) (signs-back (s ⊕ g) ss)
+
+pub taken-same : (g : Bool) (ss : List Bool) → taken g g ss ≡ ss
+taken-same g [] = refl
+taken-same g (s ∷ ss) = ap (λ (b : Bool). b ∷ ss) (xor-cancel s g)
+
+pub taken-append : (g g′ : Bool) (a b : List Bool) → zero < length a → taken g g′ (a ++ b) ≡ taken g g′ a ++ b
+taken-append g g′ [] b h = absurd (not-suc-le-zero h)
+taken-append g g′ (s ∷ ss) b h = refl

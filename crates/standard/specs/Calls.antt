@@ -1,0 +1,126 @@
+-- The five entries: a call of each as what is lent, the refusal's number (0 for none), and what is left: 'A refusal carries its number, and buffers and state are unchanged.' Assumes nothing.
+use Prim.Native.Nat.{ℕ, _*_}
+use mathlib.Core.Bool.{Bool, cond, _||_}
+use mathlib.Core.List.{List, [], _∷_, _++_, map}
+use lib.Dec.{eqb}
+use lib.IntN.{ℤ}
+use lib.ListN.{length, take, drop}
+use Rattle.standard.specs.First.{test, first}
+use Rattle.standard.specs.Bits.{bitAt, bitsIn, bytesOf, bytesFor, nth}
+use Rattle.standard.specs.Record.{topIndex, noRecord}
+use Rattle.standard.specs.Cp.{cpLength, cpByteCount, cpBytes, recordIn}
+use Rattle.standard.specs.Octets.{sampleOf}
+use Rattle.standard.specs.Frame.{dataBits, sendFrames, sendAfter, receiveFrames, receiveMarks, receiveAfter}
+use Rattle.standard.specs.Refusals.{shorter, readTests, writeTests, frameTests}
+use Rattle.standard.specs.declared.Law.{Law}
+use Rattle.standard.specs.declared.LineState.{LineState}
+use Rattle.standard.specs.declared.Record.{Record}
+
+-- a call whose refusal has the number n is accepted
+abbrev pub accepted : ℕ → Bool
+accepted n = eqb n 0
+
+-- a buffer into which these were written from its first place on: 'Bytes beyond those named are unchanged.'
+abbrev pub over : {X : Type 0} → List X → List X → List X
+over xs buffer = xs ++ drop (length xs) buffer
+
+-- ---- the CP reader
+
+pub record ReadCall : Type 0 where
+  pub bytes : List ℕ
+  pub bitCount : ℕ
+
+unfoldable pub readRefusal : ReadCall → ℕ
+readRefusal c = first (readTests (c .bytes) (c .bitCount))
+
+-- 'The reader returns the record'
+unfoldable pub readRecord : ReadCall → Record
+readRecord c = cond (accepted (readRefusal c)) (recordIn (bitAt (c .bytes))) noRecord
+
+-- ---- the CP writer
+
+pub record WriteCall : Type 0 where
+  pub cp : Record
+  pub bytes : List ℕ
+
+unfoldable pub writeRefusal : WriteCall → ℕ
+writeRefusal c = first (writeTests (c .cp) (shorter (c .bytes) (cpByteCount (topIndex (c .cp)))))
+
+-- 'the writer the bit count'
+unfoldable pub writeBitCount : WriteCall → ℕ
+writeBitCount c = cond (accepted (writeRefusal c)) (cpLength (topIndex (c .cp))) 0
+
+unfoldable pub writeBytes : WriteCall → List ℕ
+writeBytes c = cond (accepted (writeRefusal c)) (over (cpBytes (c .cp)) (c .bytes)) (c .bytes)
+
+-- ---- the frame sender
+
+pub record SendCall : Type 0 where
+  pub cp : Record
+  pub law : Law
+  pub frames : ℕ
+  pub bytes : List ℕ
+  pub octets : List ℕ
+
+unfoldable pub sendRefusal : LineState → SendCall → ℕ
+sendRefusal st c =
+    first (frameTests (c .cp) st (c .frames) (shorter (c .bytes) (bytesFor (dataBits (c .cp) (c .frames)))) (shorter (c .octets) (6 * c .frames)))
+
+-- 'The sender reads N × D data bits, ignoring bits past them'
+unfoldable pub sendBits : SendCall → List Bool
+sendBits c = bitsIn (dataBits (c .cp) (c .frames)) (c .bytes)
+
+-- 'Sender and receiver return the state left.'
+unfoldable pub sendLeft : LineState → SendCall → LineState
+sendLeft st c = cond (accepted (sendRefusal st c)) (sendAfter (c .cp) (c .frames) st (sendBits c)) st
+
+-- 'and writes 6 × N octets'
+unfoldable pub sendOctets : LineState → SendCall → List ℕ
+sendOctets st c =
+    cond (accepted (sendRefusal st c)) (over (sendFrames (c .cp) (c .law) (c .frames) st (sendBits c)) (c .octets)) (c .octets)
+
+-- ---- the frame receiver
+
+pub record ReceiveCall : Type 0 where
+  pub cp : Record
+  pub law : Law
+  pub frames : ℕ
+  pub octets : List ℕ
+  pub bytes : List ℕ
+  pub marks : List ℕ
+
+unfoldable pub receiveRefusal : LineState → ReceiveCall → ℕ
+receiveRefusal st c =
+    first
+    (frameTests (c .cp) st (c .frames) (shorter (c .octets) (6 * c .frames))
+    (shorter (c .bytes) (bytesFor (dataBits (c .cp) (c .frames))) || shorter (c .marks) (c .frames)))
+
+unfoldable pub receiveOctets : ReceiveCall → List ℕ
+receiveOctets c = take (6 * c .frames) (c .octets)
+
+unfoldable pub receiveLeft : LineState → ReceiveCall → LineState
+receiveLeft st c = cond (accepted (receiveRefusal st c)) (receiveAfter (c .cp) (c .law) (c .frames) st (receiveOctets c)) st
+
+-- 'it writes N × D data bits, zeroing the rest of the last byte it touches'
+unfoldable pub receiveBytes : LineState → ReceiveCall → List ℕ
+receiveBytes st c =
+    let bits = receiveFrames (c .cp) (c .law) (c .frames) st (receiveOctets c) in
+    cond (accepted (receiveRefusal st c)) (over (bytesOf (bytesFor (dataBits (c .cp) (c .frames))) (nth bits)) (c .bytes)) (c .bytes)
+
+-- 'and one mark byte per frame'
+unfoldable pub receiveMarked : LineState → ReceiveCall → List ℕ
+receiveMarked st c =
+    cond (accepted (receiveRefusal st c)) (over (receiveMarks (c .cp) (c .law) (c .frames) (receiveOctets c)) (c .marks)) (c .marks)
+
+-- ---- linear samples
+
+pub record LinearCall : Type 0 where
+  pub law : Law
+  pub octets : List ℕ
+  pub samples : List ℤ
+
+unfoldable pub linearRefusal : LinearCall → ℕ
+linearRefusal c = first (test 17 (shorter (c .samples) (length (c .octets))) ∷ [])
+
+unfoldable pub linearSamples : LinearCall → List ℤ
+linearSamples c = cond (accepted (linearRefusal c)) (over (map (sampleOf (c .law)) (c .octets)) (c .samples)) (c .samples)

@@ -1,0 +1,129 @@
+-- Document 01, 'CP (V.91, Table 4)'. A CP is a bit string f, a function of the bit's number. Assumes nothing.
+use Prim.Native.Nat.{ℕ, _+_, _*_, _-_, _/_, _%_}
+use mathlib.Core.Bool.{Bool, false, cond, not, _&&_, _||_}
+use mathlib.Core.List.{List, [], _∷_, _++_}
+use lib.Dec.{eqb, leb, ltb}
+use lib.ListN.{getD}
+use Rattle.standard.specs.Lists.{listFrom, any, largest}
+use Rattle.standard.specs.Bits.{weight, bit, field, bytesOf, bytesFor}
+use Rattle.standard.specs.Record.{indexOf, topIndex, inMask}
+use Rattle.standard.specs.Crc.{crcBelow}
+use Rattle.standard.specs.declared.Record.{Record}
+
+-- 'γ = 136 × g'
+abbrev pub gamma : ℕ → ℕ
+gamma g = 136 * g
+
+-- 'Zeros follow up to a multiple of 6.' The CRC ends at bit 288 + γ
+abbrev pub cpLength : ℕ → ℕ
+cpLength g = (289 + gamma g + 5) / 6 * 6
+
+-- the bytes that hold them
+abbrev pub cpByteCount : ℕ → ℕ
+cpByteCount g = bytesFor (cpLength g)
+
+-- 'Indices stand at 103, 107, 111, 115, 120 and 124, four bits each.'
+abbrev pub indexPlaces : List ℕ
+indexPlaces = 103 ∷ 107 ∷ 111 ∷ 115 ∷ 120 ∷ 124 ∷ []
+
+-- 'Mask m has its eight runs of 16 at 137 + 136 × m + 17 × c, for c from 0 to 7.'
+abbrev pub runPlace : ℕ → ℕ → ℕ
+runPlace m c = 137 + 136 * m + 17 * c
+
+-- ---- writing
+
+-- a field: its first bit's number, how many bits it has, and the number in it, lowest bit first
+pub record Field : Type 0 where
+  pub at : ℕ
+  pub width : ℕ
+  pub value : ℕ
+
+abbrev pub put : ℕ → ℕ → ℕ → Field
+put p k v = record { at = p; width = k; value = v }
+
+abbrev pub covers : Field → ℕ → Bool
+covers x n = leb (x .at) n && ltb n (x .at + x .width)
+
+-- the bit string that holds these fields and zeros elsewhere
+unfoldable pub bitIn : List Field → ℕ → Bool
+bitIn [] n = false
+bitIn (x ∷ xs) n = cond (covers x n) (bit (x .value) (n - x .at)) (bitIn xs n)
+
+-- 'Bits 0 to 16 are seventeen ones.' 'Bit 18 is granted, 20:24 drn, 33 acknowledge.' 'The writer puts 1 in bit 19'
+unfoldable pub headFields : Record → List Field
+headFields r =
+    put 0 17 0x1ffff ∷
+    put 18 1 (weight (r .granted)) ∷
+    put 19 1 1 ∷
+    put 20 5 (r .drn) ∷
+    put 33 1 (weight (r .acknowledge)) ∷
+    put 103 4 (indexOf r 0) ∷
+    put 107 4 (indexOf r 1) ∷
+    put 111 4 (indexOf r 2) ∷
+    put 115 4 (indexOf r 3) ∷
+    put 120 4 (indexOf r 4) ∷
+    put 124 4 (indexOf r 5) ∷
+    []
+
+-- run c of mask m has its Ucodes 16 c to 16 c + 15
+abbrev pub maskRun : Record → ℕ → ℕ → Field
+maskRun r m c = put (runPlace m c) 16 (field (inMask r m) (16 * c) 16)
+
+-- the runs of masks 0 to g, end to end
+unfoldable pub maskFields : Record → List Field
+maskFields r = listFrom (λ k. maskRun r (k / 8) (k % 8)) 0 (8 * (topIndex r + 1))
+
+-- what the CRC is taken of
+unfoldable pub cpBody : Record → List Field
+cpBody r = headFields r ++ maskFields r
+
+-- 'The CRC fills 273 + γ to 288 + γ.' 'takes bits 18 to 271 + γ'
+unfoldable pub crcField : Record → Field
+crcField r = let g = topIndex r in put (273 + gamma g) 16 (crcBelow (bitIn (cpBody r)) (272 + gamma g))
+
+-- start bits, bits 30:32 and 128, 'all reserved, fill and last-byte padding bits' are 0
+unfoldable pub cpBit : Record → ℕ → Bool
+cpBit r = bitIn (cpBody r ++ (crcField r ∷ []))
+
+unfoldable pub cpBytes : Record → List ℕ
+cpBytes r = bytesOf (cpByteCount (topIndex r)) (cpBit r)
+
+-- ---- reading
+
+-- the index of interval i
+abbrev pub indexIn : (ℕ → Bool) → ℕ → ℕ
+indexIn f i = field f (getD indexPlaces i 0) 4
+
+-- bit u of mask m
+unfoldable pub maskBitIn : (ℕ → Bool) → ℕ → ℕ → Bool
+maskBitIn f m u = f (runPlace m (u / 16) + u % 16)
+
+-- half h of the masks; 'Masks above g are empty in a record read.'
+unfoldable pub halfIn : (ℕ → Bool) → ℕ → ℕ → ℕ
+halfIn f g h = cond (leb (h / 2) g) (field (maskBitIn f (h / 2)) (64 * (h % 2)) 64) 0
+
+unfoldable pub recordIn : (ℕ → Bool) → Record
+recordIn f =
+    record {
+      granted = f 18;
+      drn = field f 20 5;
+      acknowledge = f 33;
+      index = listFrom (indexIn f) 0 6;
+      mask = listFrom (halfIn f (largest (indexIn f) 6)) 0 12;
+    }
+
+-- the register's CRC, and the one that was sent, lowest bit first
+unfoldable pub crcMatches : (ℕ → Bool) → ℕ → Bool
+crcMatches f g = eqb (crcBelow f (272 + gamma g)) (field f (273 + gamma g) 16)
+
+-- 'Every bit whose number is a multiple of 17, from 17 to 272 + γ, is a zero start bit.' One of them is 1
+unfoldable pub startBitSet : (ℕ → Bool) → ℕ → Bool
+startBitSet f g = any (λ i. f (17 * i)) 1 (16 + 8 * g)
+
+-- 'The reader ignores reserved bits (25:29, 35:50, 52:67, 69:84, 86:101, 129:135), fill and padding.'
+abbrev pub within : ℕ → ℕ → ℕ → Bool
+within a b n = leb a n && leb n b
+
+unfoldable pub ignored : ℕ → ℕ → Bool
+ignored g n =
+    within 25 29 n || within 35 50 n || within 52 67 n || within 69 84 n || within 86 101 n || within 129 135 n || leb (289 + gamma g) n

@@ -1,0 +1,14 @@
+pub mod Lists
+pub mod First
+pub mod Bits
+pub mod Record
+pub mod Crc
+pub mod Cp
+pub mod Scrambler
+pub mod Constellation
+pub mod Modulus
+pub mod Signs
+pub mod Octets
+pub mod Frame
+pub mod Refusals
+pub mod Calls

@@ -1,0 +1,145 @@
+-- Document 01, 'When the codec declines': the tests 1 to 17, each under a name, and the lists of them in the paper's order. Assumes nothing.
+use Prim.Native.Nat.{ℕ, _+_, _*_, _-_, _^_}
+use mathlib.Core.Bool.{Bool, not, _&&_, _||_}
+use mathlib.Core.List.{List, [], _∷_, _++_}
+use lib.Dec.{eqb, leb, ltb}
+use lib.ListN.{length}
+use Rattle.standard.specs.Lists.{any}
+use Rattle.standard.specs.First.{Test, test}
+use Rattle.standard.specs.Bits.{positive, bitAt}
+use Rattle.standard.specs.Record.{indexOf, topIndex, halfOf, K}
+use Rattle.standard.specs.Cp.{cpLength, within, startBitSet, crcMatches, recordIn}
+use Rattle.standard.specs.Constellation.{sizes}
+use Rattle.standard.specs.Modulus.{product}
+use Rattle.standard.specs.declared.LineState.{LineState}
+use Rattle.standard.specs.declared.Outcome.{Outcome}
+use Rattle.standard.specs.declared.Outcome.the-variants.{Done, Refused}
+use Rattle.standard.specs.declared.Record.{Record}
+use Rattle.standard.specs.declared.Refusal.{Refusal}
+use Rattle.standard.specs.declared.Refusal.the-variants.{CountExceedsBytes, CountTooSmall, SyncBroken, IndexTooLarge, LengthWrong, StartBitSet, CrcMismatch, FixedBitWrong, DrnTooLarge, GrantedBelowFullRate, ProductTooSmall, MaskAboveIndices, FramesAtCleardown, HistoryTooLarge, TooManyFrames, InputTooShort, OutputTooShort}
+
+-- 'A refusal carries its number'
+abbrev pub refusalNumber : Refusal → ℕ
+refusalNumber CountExceedsBytes = 1
+refusalNumber CountTooSmall = 2
+refusalNumber SyncBroken = 3
+refusalNumber IndexTooLarge = 4
+refusalNumber LengthWrong = 5
+refusalNumber StartBitSet = 6
+refusalNumber CrcMismatch = 7
+refusalNumber FixedBitWrong = 8
+refusalNumber DrnTooLarge = 9
+refusalNumber GrantedBelowFullRate = 10
+refusalNumber ProductTooSmall = 11
+refusalNumber MaskAboveIndices = 12
+refusalNumber FramesAtCleardown = 13
+refusalNumber HistoryTooLarge = 14
+refusalNumber TooManyFrames = 15
+refusalNumber InputTooShort = 16
+refusalNumber OutputTooShort = 17
+
+-- the number of an outcome: 0 where nothing is refused
+abbrev pub outcomeNumber : Outcome → ℕ
+outcomeNumber Done = 0
+outcomeNumber (Refused x) = refusalNumber x
+
+-- ---- the tests. s is the bytes of a CP, f its bits, n a bit count
+
+-- 1. 'The bit count exceeds 8 × the bytes lent.'
+unfoldable pub countExceedsBytes : List ℕ → ℕ → Bool
+countExceedsBytes s n = ltb (8 * length s) n
+
+-- 2. 'The bit count is below 294.'
+unfoldable pub countTooSmall : ℕ → Bool
+countTooSmall n = ltb n 294
+
+-- 3. 'One of bits 0 to 16 is 0.'
+unfoldable pub syncBroken : (ℕ → Bool) → Bool
+syncBroken f = any (λ n. not (f n)) 0 17
+
+-- 4. 'An interval index exceeds 5.'
+unfoldable pub indexTooLarge : Record → Bool
+indexTooLarge r = any (λ i. ltb 5 (indexOf r i)) 0 6
+
+-- 5. 'The bit count is not the length for g.'
+unfoldable pub lengthWrong : ℕ → ℕ → Bool
+lengthWrong n g = not (eqb n (cpLength g))
+
+-- 6. 'A start bit is 1.': startBitSet. 7. 'The CRC does not match.': not crcMatches
+
+-- 8. 'Bit 19 is 0, or one of 30:32 or 128 is 1.'
+unfoldable pub fixedBitWrong : (ℕ → Bool) → Bool
+fixedBitWrong f = not (f 19) || any f 30 3 || f 128
+
+-- 9. 'drn exceeds 28.'
+unfoldable pub drnTooLarge : Record → Bool
+drnTooLarge r = ltb 28 (r .drn)
+
+-- 10. 'Granted is 1 and drn is not 28.'
+unfoldable pub grantedBelowFullRate : Record → Bool
+grantedBelowFullRate r = r .granted && not (eqb (r .drn) 28)
+
+-- 11. 'drn is 1 to 28 and M0 × M1 × M2 × M3 × M4 × M5 is below 2^K.'
+unfoldable pub productTooSmall : Record → Bool
+productTooSmall r = within 1 28 (r .drn) && ltb (product (sizes r)) (2 ^ K r)
+
+-- 12. 'A mask above g is not empty.'
+unfoldable pub maskAboveIndices : Record → Bool
+maskAboveIndices r = let from = 2 * (topIndex r + 1) in any (λ h. positive (halfOf r h)) from (12 - from)
+
+-- 13. 'N is 1 or more and drn is 0.'
+unfoldable pub framesAtCleardown : Record → ℕ → Bool
+framesAtCleardown r n = leb 1 n && eqb (r .drn) 0
+
+-- 14. 'The history is 2^23 or more.'
+unfoldable pub historyTooLarge : LineState → Bool
+historyTooLarge st = leb (2 ^ 23) (st .history)
+
+-- 15. 'N exceeds 1,024.'
+unfoldable pub tooManyFrames : ℕ → Bool
+tooManyFrames n = ltb 1024 n
+
+-- 16 and 17. 'shorter than needed'
+abbrev pub shorter : {X : Type 0} → List X → ℕ → Bool
+shorter xs needed = ltb (length xs) needed
+
+-- ---- the lists
+
+-- 9 to 11
+unfoldable pub rateTests : Record → List Test
+rateTests r = test 9 (drnTooLarge r) ∷ test 10 (grantedBelowFullRate r) ∷ test 11 (productTooSmall r) ∷ []
+
+-- 'a fault in the record itself: here 4 and 9 to 12'
+unfoldable pub recordTests : Record → List Test
+recordTests r = test 4 (indexTooLarge r) ∷ (rateTests r ++ (test 12 (maskAboveIndices r) ∷ []))
+
+-- 'The reader uses 1 to 11'
+unfoldable pub readTests : List ℕ → ℕ → List Test
+readTests s n =
+    let f = bitAt s in
+    let r = recordIn f in
+    let g = topIndex r in
+    test 1 (countExceedsBytes s n) ∷
+    test 2 (countTooSmall n) ∷
+    test 3 (syncBroken f) ∷
+    test 4 (indexTooLarge r) ∷
+    test 5 (lengthWrong n g) ∷
+    test 6 (startBitSet f g) ∷
+    test 7 (not (crcMatches f g)) ∷
+    test 8 (fixedBitWrong f) ∷
+    rateTests r
+
+-- 'the writer 4, 9 to 12 and 17'
+unfoldable pub writeTests : Record → Bool → List Test
+writeTests r writeShort = recordTests r ++ (test 17 writeShort ∷ [])
+
+-- 'sender and receiver 4 and 9 to 17': readShort is the test of the buffer to be read, writeShort that of the buffers to be written
+unfoldable pub frameTests : Record → LineState → ℕ → Bool → Bool → List Test
+frameTests r st n readShort writeShort =
+    recordTests r
+    ++ (test 13 (framesAtCleardown r n) ∷
+    test 14 (historyTooLarge st) ∷
+    test 15 (tooManyFrames n) ∷
+    test 16 readShort ∷
+    test 17 writeShort ∷
+    [])

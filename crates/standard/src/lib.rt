@@ -1,0 +1,66 @@
+// The types that the entries take and answer. What they mean is defined in specs/.
+
+// The PCM law of a circuit. It is fixed per circuit, outside CP.
+pub enum Law {
+    Mu,
+    A,
+}
+
+// The constellation parameters that CP carries. Mask m is two halves: element 2 m has Ucodes 0 to 63, element 2 m + 1 has Ucodes 64 to 127.
+pub struct Record {
+    pub granted: bool,
+    pub drn: u8,
+    pub acknowledge: bool,
+    pub index: [u8; 6],
+    pub mask: [u64; 12],
+}
+
+// The line state: the last 23 scrambled bits, the latest in weight 1, and the last sign.
+pub struct LineState {
+    pub history: u32,
+    pub sign: bool,
+}
+
+// The refusals, in the order of their numbers 1 to 17.
+pub enum Refusal {
+    CountExceedsBytes,
+    CountTooSmall,
+    SyncBroken,
+    IndexTooLarge,
+    LengthWrong,
+    StartBitSet,
+    CrcMismatch,
+    FixedBitWrong,
+    DrnTooLarge,
+    GrantedBelowFullRate,
+    ProductTooSmall,
+    MaskAboveIndices,
+    FramesAtCleardown,
+    HistoryTooLarge,
+    TooManyFrames,
+    InputTooShort,
+    OutputTooShort,
+}
+
+pub enum Outcome {
+    Done,
+    Refused(Refusal),
+}
+
+// The answer of the CP reader. The record is all zero where the outcome is a refusal.
+pub struct CpRead {
+    pub outcome: Outcome,
+    pub record: Record,
+}
+
+// The answer of the CP writer. The bit count is 0 where the outcome is a refusal.
+pub struct CpWritten {
+    pub outcome: Outcome,
+    pub bit_count: usize,
+}
+
+// The answer of the frame sender and of the frame receiver, with the line state left.
+pub struct FramesDone {
+    pub outcome: Outcome,
+    pub state: LineState,
+}

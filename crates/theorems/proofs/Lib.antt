@@ -1,0 +1,5 @@
+pub mod Ends
+pub mod Doubt
+pub mod OverCalls
+pub mod Runs
+pub mod Examples

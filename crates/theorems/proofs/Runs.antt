@@ -1,0 +1,206 @@
+-- Demand 3. Assumes nothing.
+use mathlib.Core.Path.{_≡_, refl, sym, ap, _∙_, subst}
+use mathlib.Core.Logic.{_⊎_, inl, inr}
+use Prim.Native.Nat.{ℕ, zero, suc, _+_, _*_, _≤_, _<_}
+use mathlib.Core.Bool.{Bool, false}
+use mathlib.Core.List.{List, [], _∷_, map}
+use native.Mathlib.Decide.{decLe}
+use native.Mathlib.Nat.{le-trans, mul-le-mul-right, lt-of-mul-lt-mul-right, not-suc-le-zero, eq-of-mul-eq-mul-right}
+use native.Mathlib.Omega.{arith}
+use lib.ListN.{length, getD, take, length-map}
+use lib.Seq.{ext-getD, length-take-le, getD-take}
+use Rattle.standard.specs.Lists.{joined, each}
+use Rattle.standard.specs.Bits.{nth}
+use Rattle.standard.specs.Record.{D}
+use Rattle.standard.specs.Frame.{dataBits, sendFrame, sendNext, receiveFrame, receiveNext, mark}
+use Rattle.standard.specs.Calls.{SendCall, ReceiveCall}
+use Rattle.standard.specs.declared.Law.{Law}
+use Rattle.standard.specs.declared.LineState.{LineState}
+use Rattle.standard.specs.declared.Record.{Record}
+use Rattle.standard.proofs.Lists.{Sized, sized-at, length-joined, joined-at, joined-inj, length-each, sized-each}
+use Rattle.standard.proofs.Modulus.{positive-factor}
+use Rattle.standard.proofs.Frame.{Holds, sent-mark, length-sendFrame, length-receiveFrame}
+use Rattle.theorems.specs.Runs.{message, sent, SendsWith, Damage, clean, frames, Outside, Unaltered, Carried, reach, Beyond, Same, Run, Delivered, RunsDeliver, MessagesDiffer}
+use Rattle.theorems.proofs.Ends.{start, past-damage}
+use Rattle.theorems.proofs.Doubt.{Near, near-any, near-same, link, mends}
+use Rattle.theorems.proofs.OverCalls.{SendRun, send-run, ReceiveRun, receive-run, sized-fits, map-whole}
+
+-- ---- frames of one width w: frame q begins at q * w, and no frame begins past the end
+
+start-sized : (w q : ℕ) (fs : List (List Bool)) → Sized w fs → q ≤ length fs → start (λ f. f) q fs ≡ q * w
+unfolding start
+start-sized w zero fs k h = omega arith
+start-sized w (suc q) [] k h = absurd (not-suc-le-zero h)
+start-sized w (suc q) (f ∷ fs) k h = omega (arith, start-sized w q fs (k .1) (omega arith), k .0)
+
+start-all : (w q : ℕ) (fs : List (List Bool)) → Sized w fs → length fs ≤ q → start (λ f. f) q fs ≡ length fs * w
+unfolding start
+start-all w zero [] k h = omega arith
+start-all w zero (f ∷ fs) k h = absurd (not-suc-le-zero h)
+start-all w (suc q) [] k h = omega arith
+start-all w (suc q) (f ∷ fs) k h = omega (arith, start-all w q fs (k .1) (omega arith), k .0)
+
+before-start : (w x m : ℕ) (fs : List (List Bool)) → Sized w fs → m ≤ length fs → (p : ℕ) → p < m * w → p < x * w → p < start (λ f. f) x fs
+before-start w x m fs k le p h l = go (decLe x (length fs))
+  where
+    go : Dec (x ≤ length fs) → p < start (λ f. f) x fs
+    go (yes z) = omega (arith, start-sized w x fs k z)
+    go (no z) = omega (arith, mul-le-mul-right w le, start-all w x fs k (omega arith))
+
+-- a frame that was left alone, from the line's octets
+left-alone : (xs ys : List (List ℕ)) (line : List ℕ) → Sized 6 xs → Sized 6 ys → length ys ≤ length xs
+    → joined ys ≡ take (length ys * 6) line → (i : ℕ) → i < length ys → Unaltered (joined xs) line i → getD ys i [] ≡ getD xs i []
+left-alone xs ys line a b le e i h u =
+    let six : length (getD ys i []) ≡ 6 = sized-at 6 ys b i h in
+    ext-getD 0 (getD ys i []) (getD xs i []) (six ∙ sym (sized-at 6 xs a i (omega arith)))
+    (λ k q.
+    sym (joined-at 6 ys b i h k (omega arith) 0) ∙ ap (λ (z : List ℕ). getD z (i * 6 + k) 0) e
+    ∙ getD-take (length ys * 6) line (i * 6 + k) 0 (omega arith)
+    ∙ u k (omega arith)
+    ∙ joined-at 6 xs a i (omega arith) k (omega arith) 0)
+
+-- ---- frames sent, and those received of them
+
+module _ (r : Record) (l : Law) where
+  abbrev sixes : LineState → List (List Bool) → List (List ℕ)
+  sixes = each (sendFrame r l) sendNext
+
+  abbrev heard : LineState → List (List ℕ) → List Bool
+  heard t ys = joined (each (receiveFrame r l) (receiveNext r l) t ys)
+
+  sized-sixes : (s : LineState) (fs : List (List Bool)) → Sized 6 (sixes s fs)
+  sized-sixes = sized-each (sendFrame r l) sendNext 6 (length-sendFrame r l)
+
+  length-sixes : (s : LineState) (fs : List (List Bool)) → length (sixes s fs) ≡ length fs
+  length-sixes = length-each (sendFrame r l) sendNext
+
+  length-heard : (t : LineState) (ys : List (List ℕ)) → length (heard t ys) ≡ length ys * D r
+  length-heard t ys =
+      length-joined (D r) (each (receiveFrame r l) (receiveNext r l) t ys) (sized-each (receiveFrame r l) (receiveNext r l) (D r) (length-receiveFrame r l) t ys)
+      ∙ ap (λ (x : ℕ). x * D r) (length-each (receiveFrame r l) (receiveNext r l) t ys)
+
+  module _ (holds : Holds r) where
+    heard-asSent : (s t : LineState) (fs : List (List Bool)) (ys : List (List ℕ)) → Sized (D r) fs → length ys ≤ length fs
+        → (w : Damage) → ((i : ℕ) → i < length ys → Outside w i → getD ys i [] ≡ getD (sixes s fs) i [])
+        → (c : ℕ) → Near c s t → (p : ℕ) → p < length ys * D r → Beyond w (dataBits r) p → c ≤ p
+        → getD (heard t ys) p false ≡ getD (joined fs) p false
+    heard-asSent s t fs ys a le w o c n p h k q =
+        past-damage (link r l holds) [] (mends r l) w c s t fs ys n (sized-fits sendNext (D r) s fs a) le o p (omega (arith, start-sized (D r) (length ys) fs a le)) (go w k) q
+        ∙ ap (λ (x : List (List Bool)). getD (joined x) p false) (map-whole fs)
+      where
+        go : (w : Damage) → Beyond w (dataBits r) p → Beyond w (λ i. start (λ f. f) i fs) p
+        go clean k = tt
+        go (frames x y) (inl k) = inl (before-start (D r) x (length ys) fs a le p h k)
+        go (frames x y) (inr k) =
+            let u : y + 1 < length ys = lt-of-mul-lt-mul-right (D r) (omega arith) in
+            inr (omega (arith, start-sized (D r) (y + 1) fs a (omega arith)))
+
+    all-good : (s : LineState) (fs : List (List Bool)) → Sized (D r) fs → (i : ℕ) → i < length fs → mark r l (getD (sixes s fs) i []) ≡ 0
+    unfolding each
+    all-good s [] k i h = absurd (not-suc-le-zero h)
+    all-good s (f ∷ fs) k zero h = sent-mark r l holds s f (k .0)
+    all-good s (f ∷ fs) k (suc i) h = all-good (sendNext s f) fs (k .1) i (omega arith)
+
+-- ---- the claim
+
+near-start : (s t : LineState) (p : ℕ) → Same s t ⊎ (reach ≤ p) → (c : ℕ) × Near c s t × (c ≤ p)
+near-start s t p (inl e) = (0, near-same 0 s t e, omega arith)
+near-start s t p (inr k) = (24, near-any s t, k)
+
+getD-map : {X : Type 0} (f : X → ℕ) (xs : List X) (d : X) (i : ℕ) → i < length xs → getD (map f xs) i 0 ≡ f (getD xs i d)
+getD-map f [] d i h = absurd (not-suc-le-zero h)
+getD-map f (x ∷ xs) d zero h = refl
+getD-map f (x ∷ xs) d (suc i) h = getD-map f xs d i (omega arith)
+
+beyond-clean : (w : Damage) (f : ℕ → ℕ) (p : ℕ) → w ≡ clean → Beyond w f p
+beyond-clean w f p e = subst (λ (x : Damage). Beyond x f p) (sym e) tt
+
+module _ (r : Record) (l : Law) (s t : LineState) (ds out : List Bool) (xs os ms : List ℕ) (S : SendRun r l s ds xs) (Q : ReceiveRun r l t os out ms)
+    (w : Damage) (line : List ℕ) (c : Carried w xs line) (m : ℕ) (le : m * 6 ≤ length line) (e : os ≡ take (m * 6) line) where
+  abbrev fs : List (List Bool)
+  fs = S .frames
+
+  abbrev ys : List (List ℕ)
+  ys = Q .frames
+
+  carried : (length line ≡ length (joined (sixes r l s fs))) × ((i : ℕ) → Outside w i → Unaltered (joined (sixes r l s fs)) line i)
+  unfolding Carried
+  carried = subst (λ (x : List ℕ). Carried w x line) (S .octets) c
+
+  line-long : length line ≡ length fs * 6
+  line-long = carried .0 ∙ length-joined 6 (sixes r l s fs) (sized-sixes r l s fs) ∙ ap (λ (x : ℕ). x * 6) (length-sixes r l s fs)
+
+  many : length ys ≡ m
+  many = omega (arith, length-joined 6 ys (Q .sized), ap length (sym (Q .octets) ∙ e), length-take-le (m * 6) line le)
+
+  short : length ys ≤ length fs
+  short = omega (arith, line-long, many)
+
+  same-frame : (i : ℕ) → i < length ys → Outside w i → getD ys i [] ≡ getD (sixes r l s fs) i []
+  same-frame i h o =
+      left-alone (sixes r l s fs) ys line (sized-sixes r l s fs) (Q .sized) (omega (arith, short, length-sixes r l s fs))
+      (sym (Q .octets) ∙ e ∙ ap (λ (x : ℕ). take (x * 6) line) (sym many)) i h (carried .1 i o)
+
+  held : dataBits r m ≤ length ds
+  held = omega (arith, ap length (S .message), length-joined (D r) fs (S .sized), mul-le-mul-right (D r) (rw many at short))
+
+  count : length out ≡ dataBits r m
+  count = ap length (Q .bits) ∙ length-heard r l t ys ∙ ap (λ (x : ℕ). x * D r) many
+
+  asSent : (p : ℕ) → p < dataBits r m → Beyond w (dataBits r) p → Same s t ⊎ (reach ≤ p) → nth out p ≡ nth ds p
+  unfolding nth
+  asSent p h b k =
+      let near = near-start s t p k in
+      ap (λ (x : List Bool). getD x p false) (Q .bits)
+      ∙ heard-asSent r l (S .holds (le-trans (positive-factor m (D r) p h) (omega (arith, short, many)))) s t fs ys (S .sized) short w same-frame (near .0) (near .1) p (rw many h) b (near .2)
+      ∙ ap (λ (x : List Bool). getD x p false) (sym (S .message))
+
+  deliver : Delivered r w s t m ds out ms
+  unfolding nth
+  deliver =
+      record {
+        held = held;
+        count = count;
+        asSent = asSent;
+        markCount = ap length (Q .marks) ∙ length-map ys (mark r l) ∙ many;
+        marks = λ i h o.
+            let i′ : i < length ys = omega (arith, many) in
+            ap (λ (x : List ℕ). getD x i 0) (Q .marks) ∙ getD-map (mark r l) ys [] i i′
+            ∙ ap (mark r l) (same-frame i i′ o) ∙ all-good r l (S .holds (omega (arith, short))) s fs (S .sized) i (omega (arith, short));
+        whole = λ z k.
+            ext-getD false out (take (dataBits r m) ds) (count ∙ sym (length-take-le (dataBits r m) ds held))
+            (λ p h. let h′ : p < dataBits r m = rw count at h in asSent p h′ (beyond-clean w (dataBits r) p z) (inl k) ∙ sym (getD-take (dataBits r m) ds p false h′));
+      }
+
+pub runs : RunsDeliver
+runs r l s t sending receiving w line m u =
+    deliver r l s t _ _ _ _ _ (send-run r l s sending (u .sender)) (receive-run r l t receiving (u .receiver)) w line (u .carried) m (u .inside) (u .reads)
+
+-- ---- two messages
+
+module _ (r : Record) (l : Law) (s : LineState) where
+  -- a message is what its own octets give back
+  back : (ds : List Bool) (os : List ℕ) (S : SendRun r l s ds os) (p : ℕ) → p < length (S .frames) * D r → getD (heard r l s (sixes r l s (S .frames))) p false ≡ getD ds p false
+  back ds os S p h =
+      let n = length-sixes r l s (S .frames) in
+      heard-asSent r l (S .holds (positive-factor (length (S .frames)) (D r) p h)) s s (S .frames) (sixes r l s (S .frames)) (S .sized)
+      (omega arith) clean (λ i q o. refl) 0 (near-same 0 s s (refl, refl)) p (rw n h) tt (omega arith)
+      ∙ ap (λ (x : List Bool). getD x p false) (sym (S .message))
+
+  long : (ds : List Bool) (os : List ℕ) (S : SendRun r l s ds os) → length ds ≡ length (S .frames) * D r
+  long ds os S = ap length (S .message) ∙ length-joined (D r) (S .frames) (S .sized)
+
+  same-message : (ds ds′ : List Bool) (os os′ : List ℕ) → SendRun r l s ds os → SendRun r l s ds′ os′ → length ds ≡ length ds′ → os ≡ os′ → ds ≡ ds′
+  same-message ds ds′ os os′ a b e o =
+      let n : length (a .frames) ≡ length (b .frames) = eq-of-mul-eq-mul-right (D r) (omega arith) (length (a .frames)) (length (b .frames)) (sym (long ds os a) ∙ e ∙ long ds′ os′ b) in
+      let same : sixes r l s (a .frames) ≡ sixes r l s (b .frames) =
+      joined-inj 6 (sixes r l s (a .frames)) (sixes r l s (b .frames)) (sized-sixes r l s (a .frames)) (sized-sixes r l s (b .frames))
+      (length-sixes r l s (a .frames) ∙ n ∙ sym (length-sixes r l s (b .frames))) (sym (a .octets) ∙ o ∙ b .octets) in
+      ext-getD false ds ds′ e
+      (λ p h.
+      sym (back ds os a p (rw (← long ds os a) h))
+      ∙ ap (λ (x : List (List ℕ)). getD (heard r l s x) p false) same
+      ∙ back ds′ os′ b p (rw (← long ds′ os′ b, ← e) h))
+
+pub messages-differ : MessagesDiffer
+messages-differ r l s one other a b e o = same-message r l s _ _ _ _ (send-run r l s one a) (send-run r l s other b) e o

@@ -1,0 +1,1 @@
+// What follows from the definitions of `standard`: statements in specs/, proofs in proofs/.
