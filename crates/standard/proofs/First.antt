@@ -57,9 +57,10 @@ none-append (t ∷ ts) us p q = (p .0, none-append ts us (p .1) q)
 pub none-listFrom : (f : ℕ → Test) (i n : ℕ) → ((k : ℕ) → k < n → f (i + k) .applies ≡ false) → None (listFrom f i n)
 unfolding listFrom
 none-listFrom f i zero h = tt
-none-listFrom f i (suc n) h =
-    (ap (λ (k : ℕ). f k .applies) (sym (add-zero i)) ∙ h zero (zero-lt-suc n),
-    none-listFrom f (suc i) n (λ k l. ap (λ (j : ℕ). f j .applies) (suc-add i k ∙ sym (add-suc i k)) ∙ h (suc k) (omega arith)))
+none-listFrom f i (suc n) h = (
+  ap (λ (k : ℕ). f k .applies) (sym (add-zero i)) ∙ h zero (zero-lt-suc n),
+  none-listFrom f (suc i) n (λ k l. ap (λ (j : ℕ). f j .applies) (suc-add i k ∙ sym (add-suc i k)) ∙ h (suc k) (omega arith)),
+)
 
 -- a list of tests of which none applies is passed over
 pub first-append : (ts us : List Test) → None ts → first (ts ++ us) ≡ first us

@@ -6,7 +6,7 @@ use mathlib.Core.List.{List, [], _∷_, _++_, map, map-append}
 use native.Mathlib.Nat.{le-trans, zero-add}
 use native.Mathlib.Omega.{arith}
 use borrow.Author.Tests.{lt-leb, le-leb}
-use lib.Dec.{lit<, lit≤}
+use lib.Dec.{lit<, leb}
 use lib.ListN.{length, getD, take, drop, replicate, length-append, length-drop, length-map, length-replicate, take-append-drop}
 use lib.Seq.{length-take-le}
 use Rattle.standard.specs.Lists.{listFrom, parts, joined, each, after}
@@ -18,12 +18,12 @@ use Rattle.standard.specs.Constellation.{member, size, label, point, siz
 use Rattle.standard.specs.Modulus.{product, labels, number}
 use Rattle.standard.specs.Signs.{signsOf, signBits}
 use Rattle.standard.specs.Octets.{octet, signOf, ucodeOf}
-use Rattle.standard.specs.Frame.{lineBits, frameSigns, frameLabels, frameOctets, sendFrame, sendNext, signAt, ucodeAt, receivedNumber, markTests, mark, good, heardBits, receiveFrame, receiveNext, sendFrames, sendAfter, receiveFrames, receiveMarks, receiveAfter}
+use Rattle.standard.specs.Frame.{lineBits, frameSigns, frameLabels, frameOctets, sendFrame, sendNext, signAt, ucodeAt, receivedNumber, outsideTests, markTests, mark, good, heardBits, receiveFrame, receiveNext, sendFrames, sendAfter, receiveFrames, receiveMarks, receiveAfter}
 use Rattle.standard.specs.declared.Law.{Law}
 use Rattle.standard.specs.declared.LineState.{LineState}
 use Rattle.standard.specs.declared.Record.{Record}
 use Rattle.standard.proofs.Lists.{length-listFrom, getD-list, listFrom-is, joined-snoc, length-joined, length-parts, parts-snoc, each-append, after-append, length-each, sized-each}
-use Rattle.standard.proofs.First.{None, first-none, none-append, none-listFrom, first-append}
+use Rattle.standard.proofs.First.{None, first-hit, first-none, none-append, none-listFrom, first-append}
 use Rattle.standard.proofs.Bits.{numberOf-lt, bits-back, length-bitsOf}
 use Rattle.standard.proofs.Scrambler.{length-scramble, length-descramble}
 use Rattle.standard.proofs.Constellation.{Names, names}
@@ -46,6 +46,40 @@ size-at r i h = getD-list (size r) 0 6 i h
 pub length-frameOctets : (r : Record) (l : Law) (g : Bool) (ss : List Bool) → length (frameOctets r l g ss) ≡ 6
 unfolding frameOctets
 length-frameOctets r l g ss = length-listFrom (λ i. octet l (nth (frameSigns g ss) i) (point r i (getD (frameLabels r ss) i 0))) 0 6
+
+-- ---- marks
+
+module _ (r : Record) (l : Law) (os : List ℕ) where
+  -- all six belong
+  abbrev pub Belong : Type 0
+  Belong = (i : ℕ) → i < 6 → member r i (ucodeAt l os i) ≡ true
+
+  none-outside : Belong → None (outsideTests r l os)
+  unfolding outsideTests
+  none-outside all =
+      none-listFrom (λ i. test (i + 1) (not (member r i (ucodeAt l os i)))) 0 6
+      (λ i h. ap (λ (k : ℕ). not (member r k (ucodeAt l os k))) (zero-add i) ∙ ap not (all i h))
+
+  abbrev tooLarge : List Test
+  tooLarge = test 7 (leb (2 ^ K r) (receivedNumber r l os)) ∷ []
+
+  pub mark-seven : Belong → 2 ^ K r ≤ receivedNumber r l os → mark r l os ≡ 7
+  unfolding mark markTests
+  mark-seven all h =
+      first-append (outsideTests r l os) tooLarge (none-outside all) ∙ sym (first-hit 7 (leb (2 ^ K r) (receivedNumber r l os)) [] (le-leb (2 ^ K r) (receivedNumber r l os) h))
+
+  pub mark-zero : Belong → receivedNumber r l os < 2 ^ K r → mark r l os ≡ 0
+  unfolding mark markTests
+  mark-zero all h =
+      first-none (markTests r l os) (none-append (outsideTests r l os) tooLarge (none-outside all) (lt-leb (2 ^ K r) (receivedNumber r l os) h, tt))
+
+  pub marked-bits : (st : LineState) → good r l os ≡ false → receiveFrame r l st os ≡ replicate (D r) false
+  unfolding receiveFrame
+  marked-bits st e = rw e
+
+  pub marked-history : (st : LineState) → good r l os ≡ false → receiveNext r l st os .history ≡ pushAll (st .history) (replicate (D r) false)
+  unfolding receiveNext heardBits
+  marked-history st e = rw e
 
 -- ---- six octets of D bits, received
 
@@ -88,8 +122,8 @@ module _ (r : Record) (l : Law) (holds : Holds r) (g : Bool) (ss : List Bool) (l
     ucode-at : ucodeAt l os i ≡ u
     ucode-at = ap (ucodeOf l) octet-at ∙ ucode-back l (nth (frameSigns g ss) i) u (named .below)
 
-    belongs-at : not (member r i (ucodeAt l os i)) ≡ false
-    belongs-at = ap (λ (v : ℕ). not (member r i v)) ucode-at ∙ ap not (named .belongs)
+    belongs-at : member r i (ucodeAt l os i) ≡ true
+    belongs-at = ap (member r i) ucode-at ∙ named .belongs
 
     label-at : label r i (ucodeAt l os i) ≡ getD (frameLabels r ss) i 0
     label-at = ap (label r i) ucode-at ∙ named .label
@@ -106,13 +140,7 @@ module _ (r : Record) (l : Law) (holds : Holds r) (g : Bool) (ss : List Bool) (l
 
   -- a frame as sent has mark 0
   pub frame-mark : mark r l (frameOctets r l g ss) ≡ 0
-  unfolding mark markTests
-  frame-mark =
-      first-none (markTests r l os)
-      (none-append (listFrom (λ i. test (i + 1) (not (member r i (ucodeAt l os i)))) 0 6) _
-      (none-listFrom (λ i. test (i + 1) (not (member r i (ucodeAt l os i)))) 0 6
-      (λ i h. ap (λ (k : ℕ). not (member r k (ucodeAt l os k))) (zero-add i) ∙ belongs-at i h))
-      (lt-leb (2 ^ K r) (receivedNumber r l os) (rw number-back R-lt), tt))
+  frame-mark = mark-zero r l os belongs-at (rw number-back R-lt)
 
   -- and gives its D bits back, all but the first where the last sign was another
   pub frame-heard : (g′ : Bool) → heardBits r l g′ (frameOctets r l g ss) ≡ taken g g′ ss
@@ -143,25 +171,6 @@ module _ (r : Record) (l : Law) (holds : Holds r) (s : LineState) (ds : List Boo
   pub sent-sign : (t : LineState) → receiveNext r l t (sendFrame r l s ds) .sign ≡ sendNext s ds .sign
   unfolding receiveNext sendNext sendFrame
   sent-sign t = frame-sign r l holds (s .sign) (lineBits s ds) wide
-
--- ---- marked frames
-
-module _ (r : Record) (l : Law) (os : List ℕ) where
-  -- all six belong but R is too large
-  pub mark-seven : ((i : ℕ) → i < 6 → member r i (ucodeAt l os i) ≡ true) → 2 ^ K r ≤ receivedNumber r l os → mark r l os ≡ 7
-  unfolding mark markTests first
-  mark-seven all h =
-      first-append (listFrom (λ i. test (i + 1) (not (member r i (ucodeAt l os i)))) 0 6) _
-      (none-listFrom (λ i. test (i + 1) (not (member r i (ucodeAt l os i)))) 0 6 (λ i k. ap (λ (j : ℕ). not (member r j (ucodeAt l os j))) (zero-add i) ∙ ap not (all i k)))
-      ∙ rw (le-leb (2 ^ K r) (receivedNumber r l os) h)
-
-  pub marked-bits : (st : LineState) → good r l os ≡ false → receiveFrame r l st os ≡ replicate (D r) false
-  unfolding receiveFrame
-  marked-bits st e = rw e
-
-  pub marked-history : (st : LineState) → good r l os ≡ false → receiveNext r l st os .history ≡ pushAll (st .history) (replicate (D r) false)
-  unfolding receiveNext heardBits
-  marked-history st e = rw e
 
 -- ---- lengths
 

@@ -2,6 +2,7 @@ pub mod Lists
 pub mod First
 pub mod Bits
 pub mod Crc
+pub mod Cp
 pub mod Scrambler
 pub mod Constellation
 pub mod Modulus

@@ -46,7 +46,7 @@ listFrom-ext f g n h = listFrom-is g (f 0) n (listFrom f 0 n) (length-listFrom f
 
 -- ---- any
 
-or-none : (a b : Bool) → a || b ≡ false → (a ≡ false) × (b ≡ false)
+pub or-none : (a b : Bool) → a || b ≡ false → (a ≡ false) × (b ≡ false)
 or-none true b e = (cc, cc)
 or-none false b e = (refl, e)
 

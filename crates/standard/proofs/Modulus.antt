@@ -6,6 +6,7 @@ use mathlib.Core.List.{List, [], _∷_}
 use native.Mathlib.Nat.{mod-lt, mod-add-div, div-lt-iff-lt-mul, mul-comm, not-suc-le-zero, eq-zero-or-pos, zero-mul, le-trans, le-refl, le-of-eq, add-comm, mul-suc, mul-le-mul-left, add-lt-add-of-lt-of-le}
 use native.Mathlib.Omega.{arith}
 use lib.ListN.{length, getD}
+use Rattle.standard.specs.Lists.{listFrom}
 use Rattle.standard.specs.Modulus.{product, labels, number}
 
 -- the number that the labels of R form is R
@@ -32,6 +33,11 @@ within-at [] cs w i h = absurd (not-suc-le-zero h)
 within-at (M ∷ Ms) [] w i h = absurd w
 within-at (M ∷ Ms) (c ∷ cs) w zero h = w .0
 within-at (M ∷ Ms) (c ∷ cs) w (suc i) h = within-at Ms cs (w .1) i (omega arith)
+
+pub within-listFrom : (M c : ℕ → ℕ) (i n : ℕ) → ((k : ℕ) → i ≤ k → k < i + n → c k < M k) → Within (listFrom M i n) (listFrom c i n)
+unfolding listFrom
+within-listFrom M c i zero h = tt
+within-listFrom M c i (suc n) h = (h i (omega arith) (omega arith), within-listFrom M c (suc i) n (λ k a b. h k (omega arith) (omega arith)))
 
 pub positive-factor : (a b R : ℕ) → R < a * b → zero < a
 positive-factor a b R h = go (eq-zero-or-pos a)

@@ -1,32 +1,65 @@
--- What a call that is not refused has passed. Assumes nothing.
+-- What a record and a call that are not refused have passed. Assumes nothing.
 use mathlib.Core.Path.{_≡_, refl, sym, ap, ap₂, _∙_}
 use mathlib.Core.Logic.{_⊎_, inl, inr}
-use Prim.Native.Nat.{ℕ, zero, suc, _+_, _*_, _^_, _≤_, _<_}
-use mathlib.Core.Bool.{Bool, true, false, not, _&&_, _||_}
+use Prim.Native.Nat.{ℕ, zero, suc, _+_, _-_, _*_, _^_, _≤_, _<_, zero-le}
+use mathlib.Core.Bool.{Bool, true, false, not, _&&_}
 use mathlib.Core.List.{List, [], _∷_, _++_}
 use native.Mathlib.Nat.{eq-zero-or-pos}
 use native.Mathlib.Omega.{arith}
 use borrow.Author.Tests.{ltb-false, le-leb, eqb-false}
-use lib.Dec.{lit<, leb, ltb, eqb}
-use lib.ListN.{getD}
-use Rattle.standard.specs.First.{test, first}
-use Rattle.standard.specs.Record.{K}
+use lib.Dec.{T, lit<, leb, ltb, eqb}
+use lib.ListN.{length, getD}
+use Rattle.standard.specs.First.{Test, test, first}
+use Rattle.standard.specs.Bits.{weight, positive}
+use Rattle.standard.specs.Record.{indexOf, topIndex, halfOf, K}
 use Rattle.standard.specs.Cp.{within}
 use Rattle.standard.specs.Constellation.{sizes}
 use Rattle.standard.specs.Modulus.{product}
 use Rattle.standard.specs.Refusals.{indexTooLarge, drnTooLarge, grantedBelowFullRate, productTooSmall, maskAboveIndices, framesAtCleardown, historyTooLarge, tooManyFrames, rateTests, recordTests, frameTests}
 use Rattle.standard.specs.declared.LineState.{LineState}
 use Rattle.standard.specs.declared.Record.{Record}
-use Rattle.standard.proofs.First.{none-first, none-at}
+use Rattle.standard.proofs.Lists.{any-none, none-any, largest-lt}
+use Rattle.standard.proofs.First.{numbered, none-first, none-at}
 use Rattle.standard.proofs.Frame.{Holds}
 
 pub and-false-right : (a b : Bool) → a ≡ true → a && b ≡ false → b ≡ false
 and-false-right true b e f = f
 and-false-right false b e f = cc
 
-pub or-false : (a b : Bool) → a || b ≡ false → (a ≡ false) × (b ≡ false)
-or-false true b e = (cc, cc)
-or-false false b e = (refl, e)
+-- ---- a record that is not refused
+
+module _ (r : Record) (e : indexTooLarge r ≡ false) where
+  pub index-le : (i : ℕ) → i < 6 → indexOf r i ≤ 5
+  unfolding indexTooLarge
+  index-le i h = ltb-false 5 (indexOf r i) (any-none (λ i. ltb 5 (indexOf r i)) 0 6 e i zero-le (omega arith))
+
+  pub top-lt : topIndex r < 6
+  unfolding topIndex
+  top-lt = largest-lt (indexOf r) 6 6 (lit< tt) (λ i h. omega (arith, index-le i h))
+
+positive-false : (n : ℕ) → positive n ≡ false → n ≡ 0
+positive-false zero e = refl
+positive-false (suc n) e = absurd (let z : _≡_ {A = ℕ} 1 0 = ap weight e in omega arith)
+
+-- the halves above the masks that indices reach are 0, and where they are 12 does not apply
+module _ (r : Record) (top : topIndex r < 6) where
+  pub half-zero : maskAboveIndices r ≡ false → (h : ℕ) → 2 * (topIndex r + 1) ≤ h → h < 12 → halfOf r h ≡ 0
+  unfolding maskAboveIndices
+  half-zero e h a b =
+      positive-false (halfOf r h) (any-none (λ h. positive (halfOf r h)) (2 * (topIndex r + 1)) (12 - 2 * (topIndex r + 1)) e h a (omega arith))
+
+  pub zero-half : ((h : ℕ) → 2 * (topIndex r + 1) ≤ h → h < 12 → halfOf r h ≡ 0) → maskAboveIndices r ≡ false
+  unfolding maskAboveIndices
+  zero-half z = none-any (λ h. positive (halfOf r h)) (2 * (topIndex r + 1)) (12 - 2 * (topIndex r + 1)) (λ h a b. ap positive (z h a (omega arith)))
+
+-- ---- a call that is not refused
+
+-- whether test k of a list applies
+abbrev pub applied : List Test → ℕ → Bool
+applied ts k = getD ts k (test 0 true) .applies
+
+pub not-applied : (ts : List Test) → T (numbered ts) → first ts ≡ 0 → (k : ℕ) → k < length ts → applied ts k ≡ false
+not-applied ts t e k h = none-at ts (none-first ts t e) k h (test 0 true)
 
 -- a call of the sender or the receiver that is not refused
 pub record Passed (r : Record) (st : LineState) (n : ℕ) (readShort writeShort : Bool) : Type 0 where
@@ -44,8 +77,7 @@ pub record Passed (r : Record) (st : LineState) (n : ℕ) (readShort writeShort 
 pub passed : (r : Record) (st : LineState) (n : ℕ) (readShort writeShort : Bool) → first (frameTests r st n readShort writeShort) ≡ 0 → Passed r st n readShort writeShort
 unfolding frameTests recordTests rateTests
 passed r st n readShort writeShort e =
-    let p = none-first (frameTests r st n readShort writeShort) tt e in
-    let at : (k : ℕ) → k < 10 → getD (frameTests r st n readShort writeShort) k (test 0 true) .applies ≡ false = λ k h. none-at (frameTests r st n readShort writeShort) p k h (test 0 true) in
+    let at = not-applied (frameTests r st n readShort writeShort) tt e in
     record {
       index = at 0 (lit< tt);
       rate = at 1 (lit< tt);

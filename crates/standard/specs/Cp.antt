@@ -120,10 +120,14 @@ crcMatches f g = eqb (crcBelow f (272 + gamma g)) (field f (273 + gamma g) 16)
 unfoldable pub startBitSet : (ℕ → Bool) → ℕ → Bool
 startBitSet f g = any (λ i. f (17 * i)) 1 (16 + 8 * g)
 
--- 'The reader ignores reserved bits (25:29, 35:50, 52:67, 69:84, 86:101, 129:135), fill and padding.'
+-- bits a to b
 abbrev pub within : ℕ → ℕ → ℕ → Bool
 within a b n = leb a n && leb n b
 
+-- 'reserved bits (25:29, 35:50, 52:67, 69:84, 86:101, 129:135)'
+abbrev pub reserved : ℕ → Bool
+reserved n = within 25 29 n || within 35 50 n || within 52 67 n || within 69 84 n || within 86 101 n || within 129 135 n
+
+-- 'The reader ignores reserved bits .., fill and padding.'
 unfoldable pub ignored : ℕ → ℕ → Bool
-ignored g n =
-    within 25 29 n || within 35 50 n || within 52 67 n || within 69 84 n || within 86 101 n || within 129 135 n || leb (289 + gamma g) n
+ignored g n = reserved n || leb (289 + gamma g) n

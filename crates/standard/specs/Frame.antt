@@ -63,9 +63,13 @@ ucodeAt l os i = ucodeOf l (getD os i 0)
 unfoldable pub receivedNumber : Record → Law → List ℕ → ℕ
 receivedNumber r l os = number (sizes r) (listFrom (λ i. label r i (ucodeAt l os i)) 0 6)
 
--- 'Mark i + 1 names the first interval whose Ucode is outside its mask. Mark 7 means all six belong but their number R is 2^K or more.'
+-- 'Mark i + 1 names the first interval whose Ucode is outside its mask.'
+unfoldable pub outsideTests : Record → Law → List ℕ → List Test
+outsideTests r l os = listFrom (λ i. test (i + 1) (not (member r i (ucodeAt l os i)))) 0 6
+
+-- 'Mark 7 means all six belong but their number R is 2^K or more.'
 unfoldable pub markTests : Record → Law → List ℕ → List Test
-markTests r l os = listFrom (λ i. test (i + 1) (not (member r i (ucodeAt l os i)))) 0 6 ++ (test 7 (leb (2 ^ K r) (receivedNumber r l os)) ∷ [])
+markTests r l os = outsideTests r l os ++ (test 7 (leb (2 ^ K r) (receivedNumber r l os)) ∷ [])
 
 -- 'Mark 0 is good.' A mark is a term of document 01
 unfoldable pub mark : Record → Law → List ℕ → ℕ

@@ -4,11 +4,10 @@ use Prim.Native.Nat.{ℕ, suc, _+_, _-_}
 use mathlib.Core.Bool.{Bool, true, false, not, _&&_}
 use mathlib.Core.List.{List, [], _∷_}
 use lib.Dec.{eqb}
-use lib.ListN.{length, drop, replicate}
-use Rattle.standard.specs.Lists.{listFrom}
+use lib.ListN.{drop, replicate}
 use Rattle.standard.specs.First.{first}
-use Rattle.standard.specs.Bits.{_⊕_, numberOf}
-use Rattle.standard.specs.Record.{K, D, topIndex}
+use Rattle.standard.specs.Bits.{numberOf}
+use Rattle.standard.specs.Record.{K, topIndex}
 use Rattle.standard.specs.Cp.{gamma, cpLength, cpBytes}
 use Rattle.standard.specs.Constellation.{point, sizes}
 use Rattle.standard.specs.Modulus.{product}
@@ -129,5 +128,5 @@ table =
 
 pub record ExamplesHold : Type 0 where
   pub rows : all table ≡ true
-  -- B10: 'mark 7 never occurs'
-  pub neverSeven : (l : Law) (os : List ℕ) → length os ≡ 6 → mark full l os ≡ 7 → ⊥
+  -- B10: 'mark 7 never occurs', whatever the octets
+  pub neverSeven : (l : Law) (os : List ℕ) → mark full l os ≡ 7 → ⊥

@@ -1,0 +1,38 @@
+-- Document 01, 'CP': 'Writing then reading returns the record. Reading then writing returns the 37 to 122 bytes exactly where all ignored bits were zero.' Assumes nothing.
+use mathlib.Core.Path.{_≡_}
+use Prim.Native.Nat.{ℕ, _*_, _^_, _≤_, _<_}
+use mathlib.Core.Bool.{true, false}
+use mathlib.Core.List.{List}
+use lib.ListN.{length, getD, take}
+use Rattle.standard.specs.Bits.{bitAt}
+use Rattle.standard.specs.Record.{topIndex, halfOf}
+use Rattle.standard.specs.Cp.{cpByteCount, ignored}
+use Rattle.standard.specs.Calls.{over, ReadCall, readRefusal, readRecord, WriteCall, writeRefusal, writeBitCount, writeBytes}
+use Rattle.standard.specs.declared.Record.{Record}
+
+-- what the type Record says of its arrays: [u8; 6] and [u64; 12]
+pub record Shaped (r : Record) : Type 0 where
+  pub indices : length (r .index) ≡ 6
+  pub halves : length (r .mask) ≡ 12
+  pub words : (h : ℕ) → halfOf r h < 2 ^ 64
+
+-- what a call of the writer left, handed to the reader with the bit count answered
+abbrev pub readBack : WriteCall → ReadCall
+readBack c = record { bytes = writeBytes c; bitCount = writeBitCount c }
+
+abbrev pub WriteThenRead : Type 0
+WriteThenRead = (c : WriteCall) → Shaped (c .cp) → writeRefusal c ≡ 0 → (readRefusal (readBack c) ≡ 0) × (readRecord (readBack c) ≡ c .cp)
+
+-- what a call of the reader answered, handed to the writer with a buffer
+abbrev pub writeBack : ReadCall → List ℕ → WriteCall
+writeBack c buffer = record { cp = readRecord c; bytes = buffer }
+
+abbrev pub readTop : ReadCall → ℕ
+readTop c = topIndex (readRecord c)
+
+abbrev pub ReadThenWrite : Type 0
+ReadThenWrite =
+    (c : ReadCall) → ((i : ℕ) → getD (c .bytes) i 0 < 256) → readRefusal c ≡ 0
+    → ((n : ℕ) → n < 8 * cpByteCount (readTop c) → ignored (readTop c) n ≡ true → bitAt (c .bytes) n ≡ false)
+    → (buffer : List ℕ) → cpByteCount (readTop c) ≤ length buffer
+    → (writeRefusal (writeBack c buffer) ≡ 0) × (writeBytes (writeBack c buffer) ≡ over (take (cpByteCount (readTop c)) (c .bytes)) buffer)
