@@ -30,6 +30,9 @@ pub record ReadCall : Type 0 where
   pub bytes : List ℕ
   pub bitCount : ℕ
 
+abbrev pub readCall : List ℕ → ℕ → ReadCall
+readCall s n = record { bytes = s; bitCount = n }
+
 unfoldable pub readRefusal : ReadCall → ℕ
 readRefusal c = first (readTests (c .bytes) (c .bitCount))
 
@@ -42,6 +45,9 @@ readRecord c = cond (accepted (readRefusal c)) (recordIn (bitAt (c .bytes))) noR
 pub record WriteCall : Type 0 where
   pub cp : Record
   pub bytes : List ℕ
+
+abbrev pub writeCall : Record → List ℕ → WriteCall
+writeCall r s = record { cp = r; bytes = s }
 
 unfoldable pub writeRefusal : WriteCall → ℕ
 writeRefusal c = first (writeTests (c .cp) (shorter (c .bytes) (cpByteCount (topIndex (c .cp)))))
@@ -61,6 +67,9 @@ pub record SendCall : Type 0 where
   pub frames : ℕ
   pub bytes : List ℕ
   pub octets : List ℕ
+
+abbrev pub sendCall : Record → Law → ℕ → List ℕ → List ℕ → SendCall
+sendCall r l n bs os = record { cp = r; law = l; frames = n; bytes = bs; octets = os }
 
 unfoldable pub sendRefusal : LineState → SendCall → ℕ
 sendRefusal st c =
@@ -88,6 +97,9 @@ pub record ReceiveCall : Type 0 where
   pub octets : List ℕ
   pub bytes : List ℕ
   pub marks : List ℕ
+
+abbrev pub receiveCall : Record → Law → ℕ → List ℕ → List ℕ → List ℕ → ReceiveCall
+receiveCall r l n os bs ms = record { cp = r; law = l; frames = n; octets = os; bytes = bs; marks = ms }
 
 unfoldable pub receiveRefusal : LineState → ReceiveCall → ℕ
 receiveRefusal st c =
@@ -118,6 +130,9 @@ pub record LinearCall : Type 0 where
   pub law : Law
   pub octets : List ℕ
   pub samples : List ℤ
+
+abbrev pub linearCall : Law → List ℕ → List ℤ → LinearCall
+linearCall l os xs = record { law = l; octets = os; samples = xs }
 
 unfoldable pub linearRefusal : LinearCall → ℕ
 linearRefusal c = first (test 17 (shorter (c .samples) (length (c .octets))) ∷ [])
