@@ -3,16 +3,16 @@ use mathlib.Core.Path.{_≡_, refl, sym, ap, ap₂, _∙_}
 use Prim.Native.Nat.{ℕ, zero, suc, _+_, _-_, _*_, _/_, _%_, _^_, _≤_, _<_, suc-le-suc}
 use mathlib.Core.Bool.{Bool, true, false}
 use mathlib.Core.List.{List, [], _∷_, _++_}
-use native.Mathlib.Nat.{add-zero, zero-add, add-suc, suc-add, pow-suc, mod-one, div-one, mod-eq-of-lt, not-suc-le-zero, zero-lt-suc, le-of-suc-le-suc, suc-ne-zero, suc-inj}
+use native.Mathlib.Nat.{add-zero, zero-add, add-suc, suc-add, pow-suc, mod-one, div-one, mod-eq-of-lt, zero-div, not-suc-le-zero, zero-lt-suc, le-of-suc-le-suc, suc-ne-zero, suc-inj}
 use native.Mathlib.Numerals.{add-one, one-add}
 use native.Mathlib.Omega.{arith}
 use lib.Dec.{lit<}
 use lib.ListN.{length, getD, take, List·getD-append}
 use lib.Pow.{shr-shr, mod-pow-add}
-use lib.Seq.{getD-take, length-take-le}
+use lib.Seq.{getD-take, length-take-le, ext-getD}
 use Rattle.standard.specs.Lists.{listFrom}
 use Rattle.standard.specs.Bits.{_⊕_, weight, positive, odd, bit, bitAt, bitsIn, field, bytesOf, nth, numberOf, bitsOf}
-use Rattle.standard.proofs.Lists.{length-listFrom, getD-list, listFrom-is, listFrom-ext}
+use Rattle.standard.proofs.Lists.{length-listFrom, getD-listFrom, getD-list, listFrom-is, listFrom-ext}
 
 -- ---- bits of numbers
 
@@ -147,6 +147,26 @@ pub length-bitsOf : (k n : ℕ) → length (bitsOf k n) ≡ k
 unfolding bitsOf
 length-bitsOf zero n = refl
 length-bitsOf (suc k) n = ap suc (length-bitsOf k (n / 2))
+
+-- bit i of each
+pub bitsOf-at : (k n i : ℕ) → i < k → nth (bitsOf k n) i ≡ bit n i
+unfolding bitsOf nth
+bitsOf-at zero n i h = absurd (not-suc-le-zero h)
+bitsOf-at (suc k) n zero h = ap odd (sym (div-one n))
+bitsOf-at (suc k) n (suc i) h = bitsOf-at k (n / 2) i (le-of-suc-le-suc h) ∙ sym (bit-suc n i)
+
+pub numberOf-at : (bs : List Bool) (i : ℕ) → bit (numberOf bs) i ≡ nth bs i
+unfolding numberOf nth
+numberOf-at [] i = ap odd (zero-div (2 ^ i))
+numberOf-at (b ∷ bs) zero = ap odd (div-one (weight b + 2 * numberOf bs)) ∙ odd-digit b (numberOf bs)
+numberOf-at (b ∷ bs) (suc i) = bit-suc (weight b + 2 * numberOf bs) i ∙ ap (λ (x : ℕ). bit x i) (half-digit b (numberOf bs)) ∙ numberOf-at bs i
+
+-- the bits of a field, as a list
+pub bits-field : (f : ℕ → Bool) (p k : ℕ) → bitsOf k (field f p k) ≡ listFrom f p k
+unfolding nth
+bits-field f p k =
+    ext-getD false (bitsOf k (field f p k)) (listFrom f p k) (length-bitsOf k (field f p k) ∙ sym (length-listFrom f p k))
+    (λ i h. let l : i < k = rw (length-bitsOf k (field f p k)) at h in bitsOf-at k (field f p k) i l ∙ field-bit f p k i l ∙ sym (getD-listFrom f false p k i l))
 
 -- the bits of the number that bits form
 pub bits-back : (k : ℕ) (bs : List Bool) → length bs ≡ k → bitsOf k (numberOf bs) ≡ bs

@@ -1,0 +1,49 @@
+// Prints V.90 Table 1 as crate pcm has it, a line for each law, sign and Ucode: LAW SIGN UCODE OCTET LINEAR.
+use io::print_decimal;
+use io::print_hex;
+use io::write_all;
+use standard::Law;
+
+// A linear value, which is below 2 ^ 15 on either side of 0.
+fn print_linear(value: i32) {
+    if value < 0 {
+        write_all(1, b"-");
+        print_decimal(1, (0 - value as i64) as u64);
+    } else {
+        print_decimal(1, value as u64);
+    }
+}
+
+// The line of a Ucode.
+fn print_row(law: Law, name: &[u8], sign: bool, ucode: u8) {
+    let octets = [pcm::octet_of(law, sign, ucode)];
+    let mut samples = [0i32; 1];
+    pcm::linear(law, &octets, &mut samples);
+    write_all(1, name);
+    write_all(1, b" ");
+    print_decimal(1, sign as u64);
+    write_all(1, b" ");
+    print_decimal(1, ucode as u64);
+    write_all(1, b" ");
+    print_hex(1, octets[0] as u64, 2);
+    write_all(1, b" ");
+    print_linear(samples[0]);
+    write_all(1, b"\n");
+}
+
+// The lines of a law and a sign.
+fn print_column(law: Law, name: &[u8], sign: bool) {
+    let mut ucode: u8 = 0;
+    while ucode < 128 {
+        print_row(law, name, sign, ucode);
+        ucode += 1;
+    }
+}
+
+// Both laws, each with the positive sign first.
+fn main() {
+    print_column(Law::Mu, b"mu", true);
+    print_column(Law::Mu, b"mu", false);
+    print_column(Law::A, b"a", true);
+    print_column(Law::A, b"a", false);
+}

@@ -1,0 +1,345 @@
+"""The cases of send, receive and linear that are stored."""
+
+import math
+from itertools import combinations
+
+from forms import linear_case, outcome, receive_case, send_case
+from frames import (FRESH, HISTORIES, MOST_FRAMES, State, data_bytes, interval_masks, points,
+                    ucodes_for)
+from record import EMPTY, FULL_MASK, k_of, make, sizes_of
+from samples import Draw, a_record, a_state, faulty_record
+from table1 import A, MU, octet_of
+
+BENCH = make(0, 1, 0, [0] * 6, [63])
+SEVEN_UCODES = make(0, 2, 0, [0] * 6, [127])
+
+NUMBERS = (4, *range(9, 18))
+
+# As for CP; besides, 13 wants drn 0, 9 one above 28 and 11 one of 1 to 28.
+APART = {(9, 11), (4, 12), (9, 13), (11, 13)}
+
+
+def possible(numbers):
+    """Whether refusals can hold together."""
+    return not any(pair in APART for pair in combinations(sorted(numbers), 2))
+
+
+def pairs():
+    """The pairs of refusals that can hold together."""
+    return [pair for pair in combinations(NUMBERS, 2) if possible(pair)]
+
+
+# Frames with a wanted mark
+
+def a_frame(draw, record, law, mark):
+    """Six octets that get this mark. 1 to 6 want a mask that is not full, 7 a product above 2^K."""
+    masks = interval_masks(record)
+    if mark in (0, 7):
+        limit = 2 ** k_of(record)
+        first, end = (0, limit) if mark == 0 else (limit, math.prod(sizes_of(record)))
+        ucodes = ucodes_for(masks, first + draw.below(end - first))
+    else:
+        first = mark - 1
+        ucodes = [draw.pick(points(mask)) for mask in masks[:first]]
+        ucodes.append(draw.pick(points(masks[first] ^ FULL_MASK)))
+        ucodes += [draw.below(128) for _ in masks[mark:]]
+    return bytes(octet_of(law, draw.below(2), ucode) for ucode in ucodes)
+
+
+def possible_marks(record):
+    """The marks that frames can get under this record."""
+    marks = [i + 1 for i, size in enumerate(sizes_of(record)) if size < 128]
+    if math.prod(sizes_of(record)) > 2 ** k_of(record):
+        marks.append(7)
+    return marks
+
+
+def a_record_with_all_marks(draw, drn):
+    """A record under which every mark can be given."""
+    while True:
+        record = a_record(draw, drn, most=127)
+        if len(possible_marks(record)) == 7:
+            return record
+
+
+# Calls that fit
+
+def a_send(draw, record, law, count, state, spare=0):
+    """A sender's call that is not declined; bits past the last frame are at random."""
+    data = draw.octets(data_bytes(record, count) + spare)
+    return send_case(record, law, count, state, data, 6 * count + spare)
+
+
+def a_receive(draw, record, law, state, line, spare=0):
+    """A receiver's call that is not declined, reading whole frames."""
+    count = len(line) // 6
+    rooms = data_bytes(record, count) + spare, count + spare
+    return receive_case(record, law, count, state, line + draw.octets(spare), *rooms)
+
+
+# Calls at fault
+
+def a_history_too_large(draw):
+    """A history of 2^23 or more."""
+    return draw.pick((HISTORIES, HISTORIES + draw.bits(23), 2**32 - 1, draw.bits(32) | 2**31))
+
+
+def a_count(draw, numbers, exact):
+    """The frames of a call at fault; `exact` asks for the least number that is too many."""
+    if 15 in numbers:
+        if exact:
+            return MOST_FRAMES + 1
+        return draw.pick((1025, 1026, 2048, 2**16, 2**32 + 1, 2**61, 2**63, 2**64 - 1))
+    return draw.pick((1, 2, 3) if numbers & {13, 16, 17} else (0, 1, 2))
+
+
+def a_length(draw, needed, short):
+    """The length of a buffer: one byte short or empty, or what is needed and perhaps more."""
+    return draw.pick((needed - 1, needed - 1, 0)) if short else needed + draw.below(3)
+
+
+def faulty_parts(draw, numbers, state):
+    """(Record, state, frames, whether 16 holds, whether 17 holds) of a call at fault.
+
+    Buffers for more frames than 1,024 are lent only where a refusal's being looked at after 15 is
+    the point; elsewhere 16 and 17 hold together with 15.
+    """
+    exact = numbers in ({15}, {15, 17})
+    record = a_record(draw, 1) if exact else faulty_record(draw, numbers)
+    state = a_state(draw) if state is None else state
+    if 14 in numbers:
+        state = state._replace(history=a_history_too_large(draw))
+    lacking = 15 in numbers and not exact
+    count = a_count(draw, numbers, exact)
+    return record, state, count, lacking or 16 in numbers, lacking or 17 in numbers
+
+
+def faulty_send(draw, numbers, state=None):
+    """A case of send in which the refusals of `numbers` hold."""
+    record, state, count, short_read, short_write = faulty_parts(draw, numbers, state)
+    if count > MOST_FRAMES + 1:
+        return send_case(record, draw.below(2), count, state, draw.octets(8), 8)
+    data = draw.octets(a_length(draw, data_bytes(record, count), short_read))
+    room = a_length(draw, 6 * count, short_write)
+    return send_case(record, draw.below(2), count, state, data, room)
+
+
+def faulty_receive(draw, numbers, state=None, lacks=None):
+    """A case of receive in which the refusals of `numbers` hold.
+
+    `lacks` says which buffers are short where 17 holds: 1 the bits, 2 the marks, 3 both.
+    """
+    record, state, count, short_read, short_write = faulty_parts(draw, numbers, state)
+    if count > MOST_FRAMES + 1:
+        return receive_case(record, draw.below(2), count, state, draw.octets(8), 8, 8)
+    octets = draw.octets(a_length(draw, 6 * count, short_read))
+    lacks = draw.between(1, 3) if lacks is None else lacks
+    bit_room = a_length(draw, data_bytes(record, count), short_write and lacks & 1)
+    mark_room = a_length(draw, count, short_write and lacks & 2)
+    return receive_case(record, draw.below(2), count, state, octets, bit_room, mark_room)
+
+
+def faulty_cases(draw):
+    """Each refusal alone, each pair, and greater sets at random, for both entries."""
+    for number in NUMBERS:
+        for _ in range(1 if number == 15 else 3):
+            yield faulty_send(draw, {number})
+            yield faulty_receive(draw, {number})
+    for pair in pairs():
+        yield faulty_send(draw, set(pair))
+        yield faulty_receive(draw, set(pair))
+    for lacks in (1, 2, 3):
+        yield faulty_receive(draw, {17}, lacks=lacks)
+        yield faulty_receive(draw, {14, 17}, lacks=lacks)
+        yield faulty_receive(draw, {16, 17}, lacks=lacks)
+    for _ in range(40):
+        numbers = {number for number in NUMBERS if draw.below(3) == 0}
+        if possible(numbers) and numbers - {15, 17}:
+            yield faulty_send(draw, numbers)
+            yield faulty_receive(draw, numbers)
+
+
+# Runs of calls
+
+def a_cut(draw, total):
+    """A number of frames cut into calls, some of them of no frames."""
+    calls = []
+    while total:
+        calls.append(min(total, draw.pick((0, 1, 2, 3, 7))))
+        total -= calls[-1]
+    return calls
+
+
+def a_refused_number(draw):
+    """A refusal that can be met in any state, with few bytes."""
+    return draw.pick([number for number in NUMBERS if number not in (14, 15)])
+
+
+def sent(draw, record, law, state, cut):
+    """(Cases, octets sent) of one sender's list, with a refused call in it."""
+    cases, line = [], b""
+    refused = draw.below(len(cut))
+    for n, count in enumerate(cut):
+        if n == refused:
+            cases.append(faulty_send(draw, {a_refused_number(draw)}, state))
+        cases.append(a_send(draw, record, law, count, state, draw.pick((0, 0, 2))))
+        _, state, octets = outcome(cases[-1])
+        line += octets[:6 * count]
+    return cases, line
+
+
+def read(draw, record, law, state, cut, line):
+    """The cases of one receiver's list, with a refused call in it."""
+    cases = []
+    refused = draw.below(len(cut))
+    for n, count in enumerate(cut):
+        if n == refused:
+            cases.append(faulty_receive(draw, {a_refused_number(draw)}, state))
+        frames, line = line[:6 * count], line[6 * count:]
+        cases.append(a_receive(draw, record, law, state, frames, draw.pick((0, 0, 2))))
+        state = outcome(cases[-1])[1]
+    return cases
+
+
+def damaged(draw, record, law, line):
+    """What the line delivers: unchanged, one octet altered, or some frames in place of others."""
+    line = bytearray(line)
+    how = draw.below(4)
+    if how == 1:
+        line[draw.below(len(line))] ^= draw.between(1, 255)
+    if how >= 2:
+        a = draw.below(len(line) // 6)
+        b = min(a + draw.below(2), len(line) // 6 - 1)
+        for n in range(a, b + 1):
+            mark = draw.pick([0] + possible_marks(record))
+            line[6 * n:6 * n + 6] = a_frame(draw, record, law, mark)
+    return bytes(line)
+
+
+def a_run(draw, record, law, total):
+    """The cases of one run: sent, carried and read, the two lists cut differently."""
+    start = draw.pick((FRESH, a_state(draw)))
+    cases, line = sent(draw, record, law, start, a_cut(draw, total))
+    line = damaged(draw, record, law, line)
+    begin = draw.pick((start, a_state(draw)))
+    return cases + read(draw, record, law, begin, a_cut(draw, total), line)
+
+
+def runs(draw):
+    """Two runs under every rate and law."""
+    for drn in range(1, 29):
+        for law in (MU, A, MU, A):
+            yield from a_run(draw, a_record(draw, drn), law, draw.between(4, 11))
+
+
+def long_calls(draw):
+    """Calls of 32, 1,023 and 1,024 frames."""
+    for drn, law in ((1, A), (2, MU), (11, A), (19, MU), (28, A)):
+        record = a_record(draw, drn)
+        yield from one_cut(draw, record, law, [32], [32])
+    yield from one_cut(draw, a_record(draw, 2), MU, [1024], [1023, 1])
+    yield from one_cut(draw, a_record(draw, 1), A, [1, 1023], [1024])
+    yield from one_cut(draw, a_record(draw, 28), A, [1024], [1024])
+
+
+def one_cut(draw, record, law, cut, reads):
+    """A run cut as wanted, with two frames altered."""
+    start = a_state(draw)
+    cases, line = sent(draw, record, law, start, cut)
+    line = bytearray(line)
+    for n in (1, len(line) // 6 - 2):
+        line[6 * n:6 * n + 6] = draw.octets(6)
+    return cases + read(draw, record, law, start, reads, bytes(line))
+
+
+# Single calls
+
+def bench_calls():
+    """The bench examples of document 01 that are calls, and the values of a second model."""
+    zeros, ones = bytes(8), b"\xff" * 8
+    yield send_case(BENCH, MU, 1, FRESH, zeros[:3], 6)
+    yield send_case(BENCH, MU, 1, FRESH, ones[:3], 6)
+    yield send_case(BENCH, A, 1, FRESH, zeros[:3], 6)
+    yield send_case(BENCH, MU, 3, FRESH, ones, 18)
+    for labels in ((5, 5, 5, 5, 5, 5), (1, 1, 4, 1, 1, 4), (2, 1, 4, 1, 1, 4)):
+        frame = bytes(0xFF ^ 5 - label for label in labels)
+        yield receive_case(BENCH, MU, 1, FRESH, frame, 3, 1)
+    strangers = bytes(0xFF ^ ucode for ucode in (0, 0, 6, 0, 6, 0))
+    yield receive_case(BENCH, MU, 1, FRESH, strangers, 3, 1)
+    for state in (State(0, 0), State(0, 1), State(1, 0)):
+        yield receive_case(BENCH, MU, 2, state, b"\x7a" * 12, 6, 2)
+    yield receive_case(BENCH, MU, 1, State(7, 0), b"\xff" * 6, 3, 1)
+    yield receive_case(SEVEN_UCODES, MU, 1, State(1, 0), b"\x80" * 6, 3, 1)
+
+
+def marked_frames(draw):
+    """Every mark, alone from states with old history bits, and between two good frames."""
+    for drn in (1, 2, 3):
+        for mark in range(8):
+            for history in (HISTORIES - 1, draw.pick((1, 2, 3)), draw.bits(23)):
+                record, law = a_record_with_all_marks(draw, drn), draw.below(2)
+                state = State(history, draw.below(2))
+                yield a_receive(draw, record, law, state, a_frame(draw, record, law, mark))
+    for drn in (1, 2, 5, 9, 14, 20, 24, 27):
+        for mark in range(8):
+            record, law = a_record_with_all_marks(draw, drn), draw.below(2)
+            line = b"".join(a_frame(draw, record, law, m) for m in (0, mark, 0))
+            yield a_receive(draw, record, law, a_state(draw), line)
+
+
+def number_edges(draw):
+    """R at 2^K - 1, at 2^K and at the product less one."""
+    for drn in (1, 4, 10, 17, 23, 27):
+        record, law = a_record_with_all_marks(draw, drn), draw.below(2)
+        limit = 2 ** k_of(record)
+        for number in (0, limit - 1, limit, math.prod(sizes_of(record)) - 1):
+            ucodes = ucodes_for(interval_masks(record), number)
+            frame = bytes(octet_of(law, draw.below(2), ucode) for ucode in ucodes)
+            yield a_receive(draw, record, law, a_state(draw), frame)
+    full = make(1, 28, 0, [0] * 6, [FULL_MASK])
+    for law in (MU, A):
+        yield a_receive(draw, full, law, a_state(draw), draw.octets(18))
+
+
+def states(draw):
+    """Line states at and beyond their bounds, with no frame and with one."""
+    for history in (1, 2**17, 2**22, 2**22 + 2**17, HISTORIES - 1,
+                    HISTORIES, HISTORIES + 1, 2**24, 2**31, 2**32 - 1):
+        for count in (0, 2):
+            record, law = a_record(draw, draw.between(1, 28)), draw.below(2)
+            state = State(history, draw.below(2))
+            yield a_send(draw, record, law, count, state)
+            yield a_receive(draw, record, law, state, draw.octets(6 * count))
+
+
+def no_frames(draw):
+    """Calls of no frames: with drn 0, with empty buffers and with others."""
+    for record in (EMPTY, BENCH, a_record(draw, 0), a_record(draw, 28, granted=1)):
+        for length in (0, 5):
+            state = a_state(draw)
+            yield send_case(record, MU, 0, state, draw.octets(length), length)
+            yield receive_case(record, A, 0, state, draw.octets(length), length, length)
+    for numbers in ({4}, {9}, {10}, {11}, {12}, {10, 13}):
+        record = faulty_record(draw, numbers)
+        yield send_case(record, A, 0, a_state(draw), b"", 0)
+        yield receive_case(record, MU, 0, a_state(draw), b"", 0, 0)
+
+
+def linear_cases(draw):
+    """Linear samples: every octet under both laws, and buffers longer and shorter."""
+    for law in (MU, A):
+        yield linear_case(law, bytes(range(256)), 256)
+        yield linear_case(law, bytes(range(255, -1, -1)), 260)
+        for count, room in ((0, 0), (0, 3), (1, 1), (1, 0), (2, 1), (9, 9), (9, 8), (9, 40),
+                            (256, 255)):
+            yield linear_case(law, draw.octets(count), room)
+
+
+def cases():
+    """The stored cases in order."""
+    draw = Draw(9105)
+    found = list(bench_calls())
+    for group in (marked_frames, number_edges, states, no_frames, faulty_cases, runs, long_calls,
+                  linear_cases):
+        found += group(draw)
+    return found

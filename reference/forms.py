@@ -1,0 +1,156 @@
+"""The stored cases: one call of an entry as a byte string, and its answer as another.
+
+A case begins with its kind. The last field takes all the rest; count8 is 8 bytes and len2 2 bytes,
+low byte first; a record is 105 bytes, a line state 5, a law 1.
+
+    00  read_cp   count8 bit count, CP bytes
+                  -> refusal, record
+    01  write_cp  record, buffer
+                  -> refusal, len2 bit count, buffer
+    02  send      record, law, count8 frames, state, len2 octets lent, data
+                  -> refusal, state, octets
+    03  receive   record, law, count8 frames, state, len2 bits lent, len2 marks lent, octets
+                  -> refusal, state, bits, marks
+    04  linear    law, len2 samples lent, octets
+                  -> refusal, samples of 4 bytes
+
+A buffer of which only the length is given is handed in with the contents `octets_lent`,
+`bits_lent`, `marks_lent` or `samples_lent`.
+"""
+
+import cp
+import frames
+import linear
+import record
+
+READ_CP, WRITE_CP, SEND, RECEIVE, LINEAR = range(5)
+
+
+def octets_lent(length):
+    """The sender's octet buffer as handed in."""
+    return bytes((7 * i + 3) % 256 for i in range(length))
+
+
+def bits_lent(length):
+    """The receiver's bit buffer as handed in."""
+    return bytes((5 * i + 1) % 256 for i in range(length))
+
+
+def marks_lent(length):
+    """The receiver's mark buffer as handed in."""
+    return bytes((3 * i + 2) % 256 for i in range(length))
+
+
+def samples_lent(length):
+    """The sample buffer as handed in."""
+    return [1000 * i + 7 for i in range(length)]
+
+
+def number(form):
+    """A number with its low byte first."""
+    return int.from_bytes(form, "little")
+
+
+def len2(value):
+    """A length in two bytes."""
+    return value.to_bytes(2, "little")
+
+
+def count8(value):
+    """A count in eight bytes."""
+    return value.to_bytes(8, "little")
+
+
+# Cases made
+
+def read_case(octets, bit_count):
+    """A case of read_cp."""
+    return bytes([READ_CP]) + count8(bit_count) + octets
+
+
+def write_case(rec, buffer):
+    """A case of write_cp."""
+    return bytes([WRITE_CP]) + record.pack(rec) + buffer
+
+
+def call_head(kind, rec, law, count, state):
+    """What a case of send and one of receive begin with."""
+    return (bytes([kind]) + record.pack(rec) + bytes([law]) + count8(count)
+            + frames.pack_state(state))
+
+
+def send_case(rec, law, count, state, data, room):
+    """A case of send with `room` octets lent."""
+    return call_head(SEND, rec, law, count, state) + len2(room) + data
+
+
+def receive_case(rec, law, count, state, octets, bit_room, mark_room):
+    """A case of receive with `bit_room` and `mark_room` bytes lent."""
+    rooms = len2(bit_room) + len2(mark_room)
+    return call_head(RECEIVE, rec, law, count, state) + rooms + octets
+
+
+def linear_case(law, octets, room):
+    """A case of linear with `room` samples lent."""
+    return bytes([LINEAR, law]) + len2(room) + octets
+
+
+# Cases taken apart and answered
+
+def arguments(case):
+    """(Kind, arguments of the entry)."""
+    kind, form = case[0], case[1:]
+    if kind == READ_CP:
+        return kind, (form[8:], number(form[:8]))
+    if kind == WRITE_CP:
+        return kind, (record.unpack(form[:105]), form[105:])
+    if kind == LINEAR:
+        return kind, (form[0], form[3:], samples_lent(number(form[1:3])))
+    rec, law = record.unpack(form[:105]), form[105]
+    count, state = number(form[106:114]), frames.unpack_state(form[114:119])
+    if kind == SEND:
+        lent = octets_lent(number(form[119:121]))
+        return kind, (rec, law, count, state, form[121:], lent)
+    lent = bits_lent(number(form[119:121])), marks_lent(number(form[121:123]))
+    return kind, (rec, law, count, state, form[123:], *lent)
+
+
+def outcome(case):
+    """What the entry returns."""
+    kind, args = arguments(case)
+    if kind == READ_CP:
+        return cp.read_cp(*args)
+    if kind == WRITE_CP:
+        return cp.write_cp(*args)
+    if kind == SEND:
+        return frames.send(*args)
+    if kind == RECEIVE:
+        return frames.receive(*args)
+    return linear.linear(*args)
+
+
+def held(case):
+    """The refusals whose conditions hold, in order; the first of them is the answer."""
+    kind, args = arguments(case)
+    if kind == READ_CP:
+        return list(cp.reader_faults(*args))
+    if kind == WRITE_CP:
+        return list(cp.writer_faults(*args))
+    if kind == SEND:
+        return list(frames.send_faults(*args))
+    if kind == RECEIVE:
+        return list(frames.receive_faults(*args))
+    return list(linear.faults(*args))
+
+
+def answer(case):
+    """The answer to a case, in bytes."""
+    refusal, *rest = outcome(case)
+    head = bytes([refusal])
+    if case[0] == READ_CP:
+        return head + record.pack(rest[0])
+    if case[0] == WRITE_CP:
+        return head + len2(rest[0]) + rest[1]
+    if case[0] == LINEAR:
+        return head + b"".join(value.to_bytes(4, "little", signed=True) for value in rest[0])
+    return head + frames.pack_state(rest[0]) + b"".join(rest[1:])

@@ -1,0 +1,604 @@
+"""Tests of the model: `python3 reference/test.py` prints a line for each group, then 'ok'.
+
+With -v it also says how many stored cases each wrong codec fails.
+"""
+
+import sys
+import traceback
+from unittest.mock import patch
+
+import cases_cp
+import cases_frames
+import cp
+import forms
+import frames
+import vectors
+from frames import FRESH, State
+from linear import linear
+from record import EMPTY, FULL_MASK, k_of, make
+from samples import Draw, a_record, a_state
+from table1 import A, MU, linear_of, octet_of, rows, ucode_of
+
+BENCH = cases_cp.BENCH
+
+
+def check(holds, what):
+    """Stop the group unless the condition holds."""
+    if not holds:
+        raise AssertionError(what)
+
+
+def same(found, wanted, what):
+    """Stop the group unless the two are equal."""
+    check(found == wanted, f"{what}: found {found!r}, wanted {wanted!r}")
+
+
+# Table 1
+
+def mu_rule(u):
+    """The µ-law linear value by rule."""
+    return (8 * (u % 16) + 132) * 2 ** (u // 16) - 132
+
+
+def a_rule(u):
+    """The A-law linear value by rule."""
+    s, q = u // 16, u % 16
+    return 16 * q + 8 if s == 0 else (16 * q + 264) * 2 ** (s - 1)
+
+
+def table_1():
+    """The printed rows follow the XOR rule and the linear rule."""
+    same([row[0] for row in rows()], list(range(128)), "Ucodes")
+    for u, mu, mu_linear, a, a_linear in rows():
+        same((mu, a), (0xFF ^ u, 0xD5 ^ u), f"octets of Ucode {u}")
+        same((mu_linear, a_linear), (mu_rule(u), a_rule(u)), f"linear values of Ucode {u}")
+    for law in (MU, A):
+        for octet in range(256):
+            same(octet_of(law, octet >> 7, ucode_of(law, octet)), octet, "octet there and back")
+    same((linear_of(MU, 0x7F), linear_of(MU, 0xFF)), (0, 0), "µ-law zeros")
+    same(linear(A, b"\xd5\x55", [1, 2, 3]), (0, [8, -8, 3]), "samples")
+    same(linear(A, b"\xd5\x55", [1]), (17, [1]), "samples declined")
+    return "128 rows, 256 octets"
+
+
+# The bench examples of document 01
+
+def sent(record, law, count, state, data):
+    """(Octets, state) of a call that is not declined."""
+    refusal, state, octets = frames.send(record, law, count, state, data, bytes(6 * count))
+    same(refusal, 0, "refusal of send")
+    return octets, state
+
+
+def received(record, law, state, octets):
+    """(Marks, data bits as a number, state) of a call that is not declined."""
+    count = len(octets) // 6
+    lent = bytes(frames.data_bytes(record, count)), bytes(count)
+    refusal, state, bits, marks = frames.receive(record, law, count, state, octets, *lent)
+    same(refusal, 0, "refusal of receive")
+    return list(marks), int.from_bytes(bits, "little"), state
+
+
+def of_labels(*labels):
+    """Positive µ-law octets of labels under the bench record."""
+    return bytes(0xFF ^ 5 - label for label in labels)
+
+
+def number_of(octets):
+    """R of a frame under the bench record."""
+    return frames.number_for([63] * 6, [ucode_of(MU, octet) for octet in octets])
+
+
+def ones_at(*places):
+    """A number with ones at some places."""
+    return sum(1 << place for place in places)
+
+
+def bench():
+    """B1 to B12."""
+    zeros, ones = bytes(3), b"\xff" * 3
+    same(sent(BENCH, MU, 1, FRESH, zeros)[0].hex(), "7a" * 6, "B1")
+    octets, state = sent(BENCH, MU, 1, FRESH, ones)
+    same((octets.hex(), state), ("fd7eff7afd7a", State(2097144, 0)), "B2")
+    same(number_of(octets), 4095, "B2's R")
+    same(number_of(b"\xff" * 6), 46655, "B3's R")
+    same(received(BENCH, MU, FRESH, b"\xff" * 6)[0], [7], "B3")
+    good, bad = of_labels(1, 1, 4, 1, 1, 4), of_labels(2, 1, 4, 1, 1, 4)
+    same((number_of(good), number_of(bad)), (32767, 32768), "B4's R")
+    same(received(BENCH, MU, FRESH, good + bad)[0], [0, 7], "B4")
+    strangers = bytes(0xFF ^ u for u in (0, 0, 6, 0, 6, 0))
+    same(received(BENCH, MU, FRESH, strangers)[0], [3], "B5")
+    line = sent(BENCH, MU, 2, FRESH, bytes(6))[0]
+    same(received(BENCH, MU, FRESH, line)[:2], ([0, 0], 0), "two frames of zeros")
+    same(received(BENCH, MU, State(0, 1), line)[:2], ([0, 0], ones_at(0, 18, 23)), "B6")
+    same(received(BENCH, MU, State(1, 0), line)[:2], ([0, 0], ones_at(17, 22)), "B7")
+    same(sent(BENCH, A, 1, FRESH, zeros)[0].hex(), "50" * 6, "B8")
+    bench_sizes()
+    same([octet_of(law, sign, 64) for law in (MU, A) for sign in (1, 0)],
+         [0xBF, 0x3F, 0x95, 0x15], "B11")
+    bench_length()
+    return "B1 to B12"
+
+
+def bench_sizes():
+    """B9 and B10, for the writer, the reader, the sender and the receiver."""
+    lost = FULL_MASK ^ 1 << 77
+    for record, wanted in ((make(0, 1, 0, [0, 0, 0, 0, 0, 1], [63, 31]), 0),
+                           (make(0, 1, 0, [0, 0, 0, 0, 1, 1], [63, 31]), 11),
+                           (make(0, 28, 0, [0] * 6, [FULL_MASK]), 0),
+                           (make(0, 28, 0, [0, 0, 1, 0, 0, 0], [FULL_MASK, lost]), 11)):
+        octets = cases_cp.plain(record)
+        same(cp.write_cp(record, bytes(122))[0], wanted, "B9, B10 written")
+        same(cp.read_cp(octets, cases_cp.length_of(record))[0], wanted, "B9, B10 read")
+        same(frames.send(record, MU, 0, FRESH, b"", b"")[0], wanted, "B9, B10 sent")
+        same(frames.receive(record, MU, 0, FRESH, b"", b"", b"")[0], wanted, "B9, B10 received")
+    draw = Draw(10)
+    full = make(0, 28, 0, [0] * 6, [FULL_MASK])
+    same(set(received(full, A, FRESH, draw.octets(6 * 500))[0]), {0}, "B10's marks")
+
+
+def bench_length():
+    """B12."""
+    record = make(0, 1, 0, [0, 0, 0, 0, 0, 1], [63, 31])
+    refusal, count, octets = cp.write_cp(record, bytes(54))
+    same((refusal, count, cp.end_of_crc(1)), (0, 426, 425), "B12's length")
+    for bit_count, wanted in ((425, 5), (426, 0), (427, 5)):
+        same(cp.read_cp(octets, bit_count)[0], wanted, f"B12 with {bit_count} bits")
+    same([cp.length(g) for g in range(6)], [294, 426, 564, 702, 834, 972], "lengths")
+
+
+# Values made by another model
+
+def values():
+    """CP sequences, octets and states to check by."""
+    same(cp.crc(b"123456789"), 0x6F91, "CRC check value")
+    same(cp.write_cp(BENCH, bytes(37)),
+         (0, 294, bytes.fromhex("ffff19" + "00" * 14 + "7e" + "00" * 16 + "e0d000")), "bench CP")
+    same(cp.write_cp(EMPTY, bytes(37)),
+         (0, 294, bytes.fromhex("ffff09" + "00" * 31 + "64c701")), "CP of zeros")
+    same(cp.bits_of(cases_cp.ALL_FULL) >> 273 + 680 & 0xFFFF, 0x9A29, "CRC of full masks")
+    octets, state = sent(BENCH, MU, 3, FRESH, b"\xff" * 8)
+    same(octets.hex(), "fd7eff7afd7a7b7bfc7cfa7a7d7a7d7eff7d", "63 ones")
+    same(state, State(130575, 0), "state after 63 ones")
+    same(received(BENCH, MU, State(7, 0), b"\xff" * 6), ([7], 0, State(6291456, 1)), "mark 7")
+    same(received(cases_frames.SEVEN_UCODES, MU, State(1, 0), b"\x80" * 6),
+         ([1], 0, State(4194304, 1)), "mark 1 at D = 22")
+    return "9 values"
+
+
+# The two laws of bits, step by step
+
+def steps():
+    """CRC and scrambler against the papers' single steps."""
+    draw = Draw(1)
+    for _ in range(200):
+        octets = draw.octets(draw.below(40))
+        register = 0xFFFF
+        for n in range(8 * len(octets)):
+            register = cp.crc_step(register, octets[n // 8] >> n % 8 & 1)
+        same(cp.crc(octets), register, "CRC")
+    for _ in range(200):
+        history, count = draw.bits(23), draw.between(1, 100)
+        data = draw.bits(count)
+        line = [history >> n & 1 for n in range(22, -1, -1)]
+        for n in range(count):
+            line.append(data >> n & 1 ^ line[n + 23 - 18] ^ line[n])
+        scrambled = sum(bit << n for n, bit in enumerate(line[23:]))
+        after = sum(bit << n for n, bit in enumerate(line[:-24:-1]))
+        same(frames.scramble(history, data, count), (scrambled, after), "scrambler")
+        same(frames.descramble(history, scrambled, count), (data, after), "descrambler")
+    return "CRC and scrambler, 200 each"
+
+
+# CP there and back
+
+def cp_round_trips():
+    """Writing then reading, reading then writing, and ignored bits."""
+    draw = Draw(2)
+    for n in range(1500):
+        record = a_record(draw, n % 29, granted=n % 29 == 28 and draw.below(2))
+        before = draw.octets(122 + draw.below(3))
+        refusal, count, octets = cp.write_cp(record, before)
+        needed = (count + 7) // 8
+        same(refusal, 0, "refusal of the writer")
+        same(octets[needed:], before[needed:], "bytes beyond")
+        same(cp.read_cp(octets, count), (0, record), "written and read")
+        same(cp.write_cp(record, bytes(needed))[2], octets[:needed], "the same bytes")
+        same(cp.read_cp(cases_cp.noisy(draw, record), count), (0, record), "ignored bits")
+    return "1500 records"
+
+
+# Runs of calls
+
+def bits_in(octets, count):
+    """The first bits of a buffer as a list."""
+    return [octets[n // 8] >> n % 8 & 1 for n in range(count)]
+
+
+def refused_send(draw, state):
+    """A call of the sender that is declined returns the state it got."""
+    case = cases_frames.faulty_send(draw, {cases_frames.a_refused_number(draw)}, state)
+    refusal, after, _ = forms.outcome(case)
+    check(refusal and after == state, "a refused sender's call")
+
+
+def refused_receive(draw, state):
+    """A call of the receiver that is declined returns the state it got."""
+    case = cases_frames.faulty_receive(draw, {cases_frames.a_refused_number(draw)}, state)
+    refusal, after, _, _ = forms.outcome(case)
+    check(refusal and after == state, "a refused receiver's call")
+
+
+def sender_list(draw, record, law, state, total):
+    """(Message, octets sent) of a sender's list of calls, refused ones among them."""
+    message, line = [], b""
+    for count in cases_frames.a_cut(draw, total):
+        if draw.below(4) == 0:
+            refused_send(draw, state)
+        data = draw.octets(frames.data_bytes(record, count))
+        octets, state = sent(record, law, count, state, data)
+        message += bits_in(data, count * frames.frame_bits(record))
+        line += octets
+    return message, line
+
+
+def receiver_list(draw, record, law, state, line):
+    """(Bits handed over, marks) of a receiver's list of calls, refused ones among them."""
+    handed, marks = [], []
+    for count in cases_frames.a_cut(draw, len(line) // 6):
+        if draw.below(4) == 0:
+            refused_receive(draw, state)
+        part, line = line[:6 * count], line[6 * count:]
+        bits_lent = draw.octets(frames.data_bytes(record, count))
+        _, state, bits, call_marks = frames.receive(record, law, count, state, part, bits_lent,
+                                                    draw.octets(count))
+        handed += bits_in(bits, count * frames.frame_bits(record))
+        marks += call_marks
+    return handed, marks
+
+
+def demand_3():
+    """Bits wrong only in frames a to b, the 24 after them, and the first 24 from another state."""
+    draw = Draw(3)
+    for n in range(1200):
+        record, law, total = a_record(draw, 1 + n % 28), draw.below(2), draw.between(1, 12)
+        width = frames.frame_bits(record)
+        start = draw.pick((FRESH, a_state(draw)))
+        message, line = sender_list(draw, record, law, start, total)
+        begin, doubtful = start, set()
+        if draw.below(2):
+            begin, doubtful = a_state(draw), set(range(24))
+        a = draw.below(total)
+        b = draw.between(a, min(a + 2, total - 1))
+        hurt = range(a, b + 1) if draw.below(3) else range(0)
+        for i in hurt:
+            mark = draw.pick([0] + cases_frames.possible_marks(record))
+            frame = draw.pick((draw.octets(6), cases_frames.a_frame(draw, record, law, mark)))
+            line = line[:6 * i] + frame + line[6 * i + 6:]
+        if hurt:
+            doubtful |= set(range(a * width, (b + 1) * width + 24))
+        stop = draw.between(0, total)
+        handed, marks = receiver_list(draw, record, law, begin, line[:6 * stop])
+        same(len(handed), stop * width, "bits handed over")
+        wrong = {p for p in range(len(handed)) if handed[p] != message[p]}
+        check(wrong <= doubtful, f"wrong bits {sorted(wrong - doubtful)}")
+        check(all(marks[i] == 0 for i in range(stop) if i not in hurt), "a good frame is marked")
+    return "1200 runs"
+
+
+# The stored cases
+
+def stored_lines(name):
+    """The byte strings of a stored file."""
+    return [bytes.fromhex(line) for line in vectors.stored(name).splitlines()]
+
+
+def stored_cases():
+    """(Case, answer) for all stored cases."""
+    both = []
+    for name in ("vectors_cp", "vectors_frames"):
+        cases, answers = stored_lines(f"{name}/stdin"), stored_lines(f"{name}/stdout")
+        same(len(cases), len(answers), f"lines of {name}")
+        both += zip(cases, answers)
+    return both
+
+
+def stored_answers():
+    """The stored answers are the model's, and the files keep their bounds."""
+    both = stored_cases()
+    for case, answer in both:
+        same(forms.answer(case).hex(), answer.hex(), f"answer to {case.hex()}")
+    of_cp = [case for case, _ in both if case[0] in (forms.READ_CP, forms.WRITE_CP)]
+    check(len(of_cp) <= 900, "lines of vectors_cp")
+    check(max(map(len, of_cp)) <= 300, "a line of vectors_cp")
+    texts = [vectors.stored(f"vectors_frames/{name}") for name in ("stdin", "stdout")]
+    check(sum(map(len, texts)) < 1_500_000, "size of vectors_frames")
+    check(vectors.stored("vectors_pcm/stdout").count("\n") == 512, "lines of vectors_pcm")
+    return f"{len(both)} cases"
+
+
+def lent_unchanged(case):
+    """What a refusal leaves: the state got and the buffers lent, or zeros."""
+    kind, args = forms.arguments(case)
+    if kind == forms.READ_CP:
+        return [EMPTY]
+    if kind == forms.WRITE_CP:
+        return [0, args[1]]
+    if kind == forms.LINEAR:
+        return [args[2]]
+    return [args[3], *args[5:]]
+
+
+def stored_refusals():
+    """Each refusal of each entry is met alone, and each possible pair with the lower answering."""
+    alone, met = set(), set()
+    for case, answer in stored_cases():
+        held = forms.held(case)
+        same(held, sorted(held), "order of refusals")
+        same(answer[0], held[0] if held else 0, "the first that holds")
+        if held:
+            same(list(forms.outcome(case)[1:]), lent_unchanged(case), "what a refusal leaves")
+        if len(held) == 1:
+            alone.add((case[0], held[0]))
+        met |= {(case[0], held[0], other) for other in held[1:]}
+    wanted = {forms.READ_CP: (cases_cp.READER_NUMBERS, cases_cp.pairs(cases_cp.READER_NUMBERS)),
+              forms.WRITE_CP: (cases_cp.WRITER_NUMBERS, cases_cp.pairs(cases_cp.WRITER_NUMBERS)),
+              forms.SEND: (cases_frames.NUMBERS, cases_frames.pairs()),
+              forms.RECEIVE: (cases_frames.NUMBERS, cases_frames.pairs()),
+              forms.LINEAR: ((17,), ())}
+    same(alone, {(kind, number) for kind, (numbers, _) in wanted.items() for number in numbers},
+         "refusals alone")
+    same(met, {(kind, *pair) for kind, (_, pairs) in wanted.items() for pair in pairs}, "pairs")
+    return f"{len(alone)} alone, {len(met)} in pairs"
+
+
+def stored_coverage():
+    """Rates, laws, lengths, marks and numbers of frames that the stored cases must have."""
+    read, written, calls, marks = set(), set(), set(), set()
+    counts = {forms.SEND: set(), forms.RECEIVE: set()}
+    for case, answer in stored_cases():
+        kind, args = forms.arguments(case)
+        if kind == forms.READ_CP and not answer[0]:
+            record = forms.outcome(case)[1]
+            read |= {("drn", record.drn), ("g", max(record.indices))}
+        if kind == forms.WRITE_CP and not answer[0]:
+            written |= {("drn", args[0].drn), ("g", max(args[0].indices))}
+        if kind in counts:
+            counts[kind].add(args[2])
+            if not answer[0] and args[2]:
+                calls.add((kind, k_of(args[0]), args[1]))
+            if kind == forms.RECEIVE and not answer[0]:
+                given = forms.outcome(case)[3][:args[2]]
+                marks |= {(frames.frame_bits(args[0]), mark) for mark in given}
+    everything = {("drn", drn) for drn in range(29)} | {("g", g) for g in range(6)}
+    same(read, everything, "rates and lengths read")
+    same(written, everything, "rates and lengths written")
+    same(calls, {(kind, k, law) for kind in counts for k in range(15, 43) for law in (MU, A)},
+         "calls under each K and law")
+    for kind, found in counts.items():
+        check({0, 1, 2, 3, 7, 32, 1023, 1024, 1025} <= found, f"frames of kind {kind}")
+    check({(d, mark) for d in (21, 22, 23, 29, 40, 47) for mark in range(8)} <= marks, "marks")
+    return "rates, lengths, laws, marks, frames"
+
+
+# Wrong codecs
+
+RIGHT = {name: getattr(frames, name)
+         for name in ("points", "send_frame", "receive_frame", "call_faults", "outside", "receive")}
+RIGHT_CP = {name: getattr(cp, name)
+            for name in ("covered", "crc", "record_in", "record_faults", "reader_faults")}
+
+
+def history_zeroed(record, state, octets):
+    """After a mark: no history."""
+    return State(0, octets[5] >> 7)
+
+
+def history_kept(record, state, octets):
+    """After a mark: the old history."""
+    return State(state.history, octets[5] >> 7)
+
+
+def sign_kept(record, state, octets):
+    """After a mark: the old sign."""
+    return State((state.history << frames.frame_bits(record)) % 2**23, state.sign)
+
+
+def sender_sign_reset(record, law, state, data):
+    """Every frame is sent as if the last sign were 0."""
+    return RIGHT["send_frame"](record, law, state._replace(sign=0), data)
+
+
+def receiver_sign_reset(record, law, state, octets):
+    """Every frame is read as if the last sign were 0."""
+    return RIGHT["receive_frame"](record, law, state._replace(sign=0), octets)
+
+
+def points_from_smallest(mask):
+    """Label 0 for the smallest Ucode."""
+    return RIGHT["points"](mask)[::-1]
+
+
+def labels_from_smallest(mask):
+    """Label 0 for the smallest Ucode."""
+    return {ucode: label for label, ucode in enumerate(points_from_smallest(mask))}
+
+
+def own_output(history, line, count):
+    """The descrambler's history takes the data bits."""
+    return frames.scramble(history, line, count)
+
+
+def zeros_descrambled(record, law, state, octets):
+    """A marked frame gives the descrambling of zeros."""
+    mark, data, after = RIGHT["receive_frame"](record, law, state, octets)
+    if mark:
+        data = frames.descramble(state.history, 0, frames.frame_bits(record))[0]
+    return mark, data, after
+
+
+def sign_of_members_only(record, law, state, octets):
+    """The sixth octet sets the sign only if its Ucode is in the mask."""
+    mark, data, after = RIGHT["receive_frame"](record, law, state, octets)
+    ucodes = [ucode_of(law, octet) for octet in octets]
+    if 5 in frames.outside(frames.interval_masks(record), ucodes):
+        after = after._replace(sign=state.sign)
+    return mark, data, after
+
+
+def last_byte_kept(record, law, count, state, octets, bits, marks):
+    """The bits beyond the last frame are left in the last byte."""
+    refusal, state, heard, judged = RIGHT["receive"](record, law, count, state, octets, bits, marks)
+    used = count * frames.frame_bits(record)
+    if refusal == 0 and used % 8:
+        n = used // 8
+        keep = bits[n] >> used % 8 << used % 8
+        heard = heard[:n] + bytes([heard[n] | keep]) + heard[n + 1:]
+    return refusal, state, heard, judged
+
+
+def bytes_rounded_down(record, count):
+    """The whole bytes among the data bits."""
+    return count * frames.frame_bits(record) // 8
+
+
+def call_faults_without(number):
+    """The sender's and receiver's refusals with one forgotten."""
+    return lambda *args: (n for n in RIGHT["call_faults"](*args) if n != number)
+
+
+def record_faults_without(number):
+    """The record's refusals with one forgotten."""
+    return lambda record: (n for n in RIGHT_CP["record_faults"](record) if n != number)
+
+
+def marks_room_ignored(record, law, count, state, octets, bits, marks):
+    """17 looks at the bits alone; what does not fit into the marks is lost."""
+    longer = marks + bytes(1024)
+    *rest, judged = RIGHT["receive"](record, law, count, state, octets, bits, longer)
+    return *rest, judged[:len(marks)]
+
+
+def bits_room_ignored(record, law, count, state, octets, bits, marks):
+    """17 looks at the marks alone; what does not fit into the bits is lost."""
+    longer = bits + bytes(6144)
+    *rest, heard, judged = RIGHT["receive"](record, law, count, state, octets, longer, marks)
+    return *rest, heard[:len(bits)], judged
+
+
+def count_wraps(octets, bit_count):
+    """1 compares the bytes needed, counted in 64 bits."""
+    exceeds = (bit_count + 7) % 2**64 // 8 > len(octets)
+    return (n for n in RIGHT_CP["reader_faults"](octets, bit_count) if n != 1 or exceeds)
+
+
+def crc_table(polynomial):
+    """The CRC's table with another polynomial."""
+    table = []
+    for register in range(256):
+        for _ in range(8):
+            register = register >> 1 ^ (polynomial if register & 1 else 0)
+        table.append(register)
+    return table
+
+
+def covered_a_word_less(bits, g):
+    """The CRC stops before the last run of 16."""
+    return RIGHT_CP["covered"](bits, g)[:-2]
+
+
+def covered_with_start_bits(bits, g):
+    """The CRC takes the start bits too."""
+    count = 254 + 136 * g
+    return (bits >> 18 & (1 << count) - 1).to_bytes((count + 7) // 8, "little")
+
+
+def crc_complemented(octets):
+    """The CRC is complemented at the end."""
+    return RIGHT_CP["crc"](octets) ^ 0xFFFF
+
+
+def unnamed_masks_lost(bits):
+    """Masks that no index names are left out."""
+    record = RIGHT_CP["record_in"](bits)
+    halves = [half if n // 2 in record.indices else 0 for n, half in enumerate(record.halves)]
+    return record._replace(halves=tuple(halves))
+
+
+WRONG_CODECS = {
+    "history zeroed on a mark": {"frames.after_mark": history_zeroed},
+    "history kept on a mark": {"frames.after_mark": history_kept},
+    "last sign kept on a mark": {"frames.after_mark": sign_kept},
+    "sixth sign of members only": {"frames.receive_frame": sign_of_members_only},
+    "marked data descrambled": {"frames.receive_frame": zeros_descrambled},
+    "mark of the last stranger": {"frames.outside": lambda *args: RIGHT["outside"](*args)[::-1]},
+    "sender's sign reset": {"frames.send_frame": sender_sign_reset},
+    "receiver's sign reset": {"frames.receive_frame": receiver_sign_reset},
+    "labels from the smallest": {"frames.points": points_from_smallest,
+                                 "frames.labels": labels_from_smallest},
+    "descrambler fed its output": {"frames.descramble": own_output},
+    "R tested after a cut": {"frames.too_large": lambda record, number: False},
+    "last byte not cleared": {"frames.receive": last_byte_kept},
+    "bytes rounded down": {"frames.data_bytes": bytes_rounded_down},
+    "12 forgotten by the frames": {"frames.record_faults": record_faults_without(12)},
+    "12 forgotten by the writer": {"cp.record_faults": record_faults_without(12)},
+    "14 forgotten": {"frames.call_faults": call_faults_without(14)},
+    "1,023 frames at most": {"frames.MOST_FRAMES": 1023},
+    "17 for the bits alone": {"frames.receive": marks_room_ignored},
+    "17 for the marks alone": {"frames.receive": bits_room_ignored},
+    "bit count wraps": {"cp.reader_faults": count_wraps},
+    "CRC from zero": {"cp.CRC_START": 0},
+    "CRC with A001": {"cp.CRC_TABLE": crc_table(0xA001)},
+    "CRC with 1021": {"cp.CRC_TABLE": crc_table(0x1021)},
+    "CRC a word short": {"cp.covered": covered_a_word_less},
+    "CRC over start bits": {"cp.covered": covered_with_start_bits},
+    "CRC complemented": {"cp.crc": crc_complemented},
+    "acknowledge at bit 25": {"cp.ACKNOWLEDGE_AT": 25},
+    "unnamed masks lost": {"cp.record_in": unnamed_masks_lost},
+}
+
+
+def stopped(changes, both):
+    """How many stored cases a wrong codec, given by what it changes, fails."""
+    changed = [patch(name, value) for name, value in changes.items()]
+    for each in changed:
+        each.start()
+    try:
+        return sum(forms.answer(case) != answer for case, answer in both)
+    finally:
+        for each in changed:
+            each.stop()
+
+
+def wrong_codecs():
+    """Every wrong codec fails at a stored case."""
+    both = stored_cases()
+    found = {name: stopped(changes, both) for name, changes in WRONG_CODECS.items()}
+    if "-v" in sys.argv:
+        for name, count in found.items():
+            print(f"    {name}: fails {count} of {len(both)}")
+    check(all(found.values()), f"not stopped: {[name for name in found if not found[name]]}")
+    same(stopped({}, both), 0, "the model itself")
+    return f"{len(found)} stopped"
+
+
+GROUPS = (table_1, bench, values, steps, cp_round_trips, demand_3, stored_answers, stored_refusals,
+          stored_coverage, wrong_codecs)
+
+
+def main():
+    """Run the groups; the exit status."""
+    failed = 0
+    for group in GROUPS:
+        try:
+            print(f"{group.__name__}: {group()}")
+        except Exception:
+            failed += 1
+            traceback.print_exc()
+            print(f"{group.__name__}: FAILED")
+    print("failed" if failed else "ok")
+    return 1 if failed else 0
+
+
+if __name__ == "__main__":
+    sys.exit(main())
