@@ -9,5 +9,6 @@ pub mod Modulus
 pub mod Signs
 pub mod Octets
 pub mod Frame
+pub mod Stages
 pub mod Refusals
 pub mod Calls

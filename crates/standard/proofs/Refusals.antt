@@ -15,7 +15,7 @@ use Rattle.standard.specs.Record.{indexOf, topIndex, halfOf, K}
 use Rattle.standard.specs.Cp.{within}
 use Rattle.standard.specs.Constellation.{sizes}
 use Rattle.standard.specs.Modulus.{product}
-use Rattle.standard.specs.Refusals.{indexTooLarge, drnTooLarge, grantedBelowFullRate, productTooSmall, maskAboveIndices, framesAtCleardown, historyTooLarge, tooManyFrames, rateTests, recordTests, callTests, frameTests}
+use Rattle.standard.specs.Refusals.{indexTooLarge, drnTooLarge, grantedBelowFullRate, productTooSmall, maskAboveIndices, framesAtCleardown, historyTooLarge, tooManyFrames, rateTests, recordTests, lineTests, bufferTests, frameTests}
 use Rattle.standard.specs.declared.LineState.{LineState}
 use Rattle.standard.specs.declared.Record.{Record}
 use Rattle.standard.proofs.Lists.{any-none, none-any, largest-lt}
@@ -75,7 +75,7 @@ pub record Passed (r : Record) (st : LineState) (n : ℕ) (readShort writeShort 
   pub room : writeShort ≡ false
 
 pub passed : (r : Record) (st : LineState) (n : ℕ) (readShort writeShort : Bool) → first (frameTests r st n readShort writeShort) ≡ 0 → Passed r st n readShort writeShort
-unfolding frameTests callTests recordTests rateTests
+unfolding frameTests lineTests bufferTests recordTests rateTests
 passed r st n readShort writeShort e =
     let at = not-applied (frameTests r st n readShort writeShort) tt e in
     record {

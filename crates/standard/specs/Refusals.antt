@@ -133,10 +133,14 @@ readTests s n =
 unfoldable pub writeTests : Record → Bool → List Test
 writeTests r writeShort = recordTests r ++ (test 17 writeShort ∷ [])
 
--- 4 and 9 to 15, which look at no buffer
-unfoldable pub callTests : Record → LineState → ℕ → List Test
-callTests r st n = recordTests r ++ (test 13 (framesAtCleardown r n) ∷ test 14 (historyTooLarge st) ∷ test 15 (tooManyFrames n) ∷ [])
+-- 13 to 15
+unfoldable pub lineTests : Record → LineState → ℕ → List Test
+lineTests r st n = test 13 (framesAtCleardown r n) ∷ test 14 (historyTooLarge st) ∷ test 15 (tooManyFrames n) ∷ []
 
--- 'sender and receiver 4 and 9 to 17': readShort is the test of the buffer to be read, writeShort that of the buffers to be written
+-- 16 and 17: readShort is the test of the buffer to be read, writeShort that of the buffers to be written
+unfoldable pub bufferTests : Bool → Bool → List Test
+bufferTests readShort writeShort = test 16 readShort ∷ test 17 writeShort ∷ []
+
+-- 'sender and receiver 4 and 9 to 17'
 unfoldable pub frameTests : Record → LineState → ℕ → Bool → Bool → List Test
-frameTests r st n readShort writeShort = callTests r st n ++ (test 16 readShort ∷ test 17 writeShort ∷ [])
+frameTests r st n readShort writeShort = recordTests r ++ (lineTests r st n ++ bufferTests readShort writeShort)
