@@ -143,4 +143,4 @@ bufferTests readShort writeShort = test 16 readShort ∷ test 17 writeShort ∷ 
 
 -- 'sender and receiver 4 and 9 to 17'
 unfoldable pub frameTests : Record → LineState → ℕ → Bool → Bool → List Test
-frameTests r st n readShort writeShort = recordTests r ++ (lineTests r st n ++ bufferTests readShort writeShort)
+frameTests r st n readShort writeShort = (recordTests r ++ lineTests r st n) ++ bufferTests readShort writeShort
