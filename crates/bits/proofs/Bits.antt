@@ -11,21 +11,8 @@ use lib.ListN.{length, List·getD-eq-default}
 use lib.Pow.{pow-mono}
 use mir.Val.{boolByte}
 use Rattle.standard.specs.Bits.{weight, positive, odd, bitAt, field}
+use Rattle.standard.proofs.Words.{byte-weight}
 use Rattle.standard.proofs.Bits.{field-lt}
-
--- the code's test of a lowest bit
-pub odd-test : (n : ℕ) → eqb (n % 2) 1 ≡ odd n
-odd-test n = go (n % 2) (omega arith)
-  where
-    go : (x : ℕ) → x < 2 → eqb x 1 ≡ positive x
-    go zero h = refl
-    go (suc zero) h = refl
-    go (suc (suc x)) h = absurd (omega arith)
-
--- the code's number of a bit
-pub byte-weight : (b : Bool) → boolByte b ≡ weight b
-byte-weight true = refl
-byte-weight false = refl
 
 -- zeros follow the last byte
 pub bitAt-past : (s : List ℕ) (n : ℕ) → length s ≤ n / 8 → bitAt s n ≡ false

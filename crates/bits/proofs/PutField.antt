@@ -16,7 +16,7 @@ use Rattle.standard.specs.Cp.{put, covers}
 use Rattle.standard.proofs.Lists.{getD-list, listFrom-is, every, every-at, and-left, and-right}
 use Rattle.standard.proofs.Bits.{odd-weight, field-lt, field-ext, field-is, length-bytesOf, bytesOf-ext, bitAt-bytes, bytes-back}
 use Rattle.bits.specs.PutField.{byteWith, bitWith, putField}
-use Rattle.bits.proofs.Bits.{odd-test}
+use Rattle.standard.proofs.Words.{odd-test}
 
 -- ---- one bit of a byte, as the code puts it, by one computed test over all bytes
 

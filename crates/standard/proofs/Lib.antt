@@ -1,6 +1,8 @@
 pub mod Lists
 pub mod First
 pub mod Bits
+pub mod Words
+pub mod Filling
 pub mod Crc
 pub mod Cp
 pub mod Scrambler

@@ -4,7 +4,8 @@ use Prim.Native.Nat.{_+_, _-_, _≤_}
 use native.Mathlib.Omega.{arith}
 use Rattle.standard.specs.Bits.{bitAt, field}
 use Rattle.standard.proofs.Bits.{weight-lt}
-use Rattle.bits.proofs.Bits.{byte-weight, field-small, field-step}
+use Rattle.standard.proofs.Words.{byte-weight}
+use Rattle.bits.proofs.Bits.{field-small, field-step}
 use Rattle.bits.proofs.field_at.Statement.{statement}
 use Rattle.bits.proofs.field_at.Tie as tie
 

@@ -1,0 +1,220 @@
+use standard::Outcome;
+use standard::Record;
+use standard::Refusal;
+ghost use mathlib.Core.Path.{_≡_};
+ghost use Prim.Native.Nat.{_<_, _≤_, max};
+ghost use Rattle.standard.specs.Bits.{bit};
+ghost use Rattle.standard.specs.First.{first};
+ghost use Rattle.standard.specs.Record.{indexOf, topIndex};
+ghost use Rattle.standard.specs.Constellation.{sizeOf, labelOf, pointOf, sizes};
+ghost use Rattle.standard.specs.Modulus.{product};
+ghost use Rattle.standard.specs.Refusals.{outcomeNumber, indexTooLarge, grantedBelowFullRate, productTooSmall, maskAboveIndices, rateTests, recordTests};
+ghost use Rattle.constellation.specs.Mask.{has, maskOf, Indexed};
+
+// Masks: sizes, membership, labels and points, and what a record is refused for.
+
+// Bit n of a number.
+fn bit_of(word: u64, n: usize) -> bool
+    requires { ⌜ n < 64 ⌝ }
+    ensures { λ r. ⌜ r ≡ bit word n ⌝ }
+{
+    (word >> n) & 1 == 1
+}
+
+// A mask: Ucodes 0 to 63 and 64 to 127, a bit for each.
+pub struct Mask {
+    pub low: u64,
+    pub high: u64,
+}
+
+// The mask of interval i.
+pub fn mask_of(r: Record, i: usize) -> Mask
+    requires { ⌜ (i < 6) × (indexOf r i ≤ 5) ⌝ }
+    ensures { λ m. ⌜ m ≡ maskOf r i ⌝ }
+{
+    let index = r.index;
+    let mask = r.mask;
+    let at = 2 * (index[i] as usize);
+    Mask {
+        low: mask[at],
+        high: mask[at + 1],
+    }
+}
+
+// M: the ones of both halves.
+pub fn size_of(m: Mask) -> u64
+    ensures { λ r. ⌜ r ≡ sizeOf (has m) 128 ⌝ }
+{
+    (u64::count_ones(m.low) + u64::count_ones(m.high)) as u64
+}
+
+// Whether a Ucode belongs to the mask.
+pub fn belongs(m: Mask, ucode: u8) -> bool
+    requires { ⌜ ucode < 128 ⌝ }
+    ensures { λ r. ⌜ r ≡ has m ucode ⌝ }
+{
+    if ucode < 64 {
+        return bit_of(m.low, ucode as usize);
+    }
+    bit_of(m.high, (ucode - 64) as usize)
+}
+
+// The label of a Ucode: the ones above it.
+pub fn label_of(m: Mask, ucode: u8) -> u64
+    requires { ⌜ ucode < 128 ⌝ }
+    ensures { λ r. ⌜ r ≡ labelOf (has m) 128 ucode ⌝ }
+{
+    if ucode < 64 {
+        return (u64::count_ones((m.low >> ucode) >> 1) + u64::count_ones(m.high)) as u64;
+    }
+    u64::count_ones((m.high >> (ucode - 64)) >> 1) as u64
+}
+
+// The Ucode that a label names: the one with as many members of the mask above it.
+pub fn point_of(m: Mask, label: u64) -> u8
+    ensures { λ r. ⌜ (r ≡ pointOf (has m) 128 label) × (r < 128) ⌝ }
+{
+    let mut above = label;
+    let mut u: u8 = 128;
+    while 0 < u {
+        u -= 1;
+        if belongs(m, u) {
+            if above == 0 {
+                return u;
+            }
+            above -= 1;
+        }
+    }
+    0
+}
+
+// M0 to M5.
+pub fn sizes_of(r: Record) -> [u64; 6]
+    requires { ⌜ Indexed r ⌝ }
+    ensures { λ s. ⌜ s ≡ sizes r ⌝ }
+{
+    let mut found = [0u64; 6];
+    let mut i = 0;
+    while i < 6 {
+        found[i] = size_of(mask_of(r, i));
+        i += 1;
+    }
+    found
+}
+
+// The larger of two indices.
+fn larger(a: u8, b: u8) -> u8
+    ensures { λ r. ⌜ r ≡ max a b ⌝ }
+{
+    if a < b { b } else { a }
+}
+
+// g: the largest of the six indices.
+pub fn largest_index(r: Record) -> u8
+    ensures { λ g. ⌜ g ≡ topIndex r ⌝ }
+{
+    let index = r.index;
+    let mut g: u8 = 0;
+    let mut i = 0;
+    while i < 6 {
+        g = larger(g, index[i]);
+        i += 1;
+    }
+    g
+}
+
+// Refusal 4: an interval index exceeds 5.
+pub fn index_too_large(r: Record) -> bool
+    ensures { λ x. ⌜ x ≡ indexTooLarge r ⌝ }
+{
+    5 < largest_index(r)
+}
+
+// Refusal 10: granted is 1 and drn is not 28.
+fn granted_below_full_rate(r: Record) -> bool
+    ensures { λ x. ⌜ x ≡ grantedBelowFullRate r ⌝ }
+{
+    if r.granted {
+        return r.drn != 28;
+    }
+    false
+}
+
+// M0 × M1 × M2 × M3 × M4 × M5, at most 128 ^ 6.
+fn product_of(r: Record) -> u64
+    requires { ⌜ Indexed r ⌝ }
+    ensures { λ x. ⌜ x ≡ product (sizes r) ⌝ }
+{
+    let sizes = sizes_of(r);
+    let mut found: u64 = 1;
+    let mut i = 6;
+    while 0 < i {
+        i -= 1;
+        found = sizes[i] * found;
+    }
+    found
+}
+
+// Refusal 11: drn is 1 to 28 and the product is below 2 ^ K.
+fn product_too_small(r: Record) -> bool
+    requires { ⌜ Indexed r ⌝ }
+    ensures { λ x. ⌜ x ≡ productTooSmall r ⌝ }
+{
+    let drn = r.drn;
+    if drn == 0 {
+        return false;
+    }
+    if 28 < drn {
+        return false;
+    }
+    product_of(r) < 1u64 << (drn + 14)
+}
+
+// Refusal 12: a mask above g is not empty.
+fn mask_above_indices(r: Record) -> bool
+    requires { ⌜ topIndex r ≤ 5 ⌝ }
+    ensures { λ x. ⌜ x ≡ maskAboveIndices r ⌝ }
+{
+    let mask = r.mask;
+    let mut found = false;
+    let mut h = 2 * (largest_index(r) as usize + 1);
+    while h < 12 {
+        found = found | (mask[h] != 0);
+        h += 1;
+    }
+    found
+}
+
+// Refusals 9 to 11.
+pub fn rate_fault(r: Record) -> Outcome
+    requires { ⌜ Indexed r ⌝ }
+    ensures { λ x. ⌜ outcomeNumber x ≡ first (rateTests r) ⌝ }
+{
+    if 28 < r.drn {
+        return Outcome::Refused(Refusal::DrnTooLarge);
+    }
+    if granted_below_full_rate(r) {
+        return Outcome::Refused(Refusal::GrantedBelowFullRate);
+    }
+    if product_too_small(r) {
+        return Outcome::Refused(Refusal::ProductTooSmall);
+    }
+    Outcome::Done
+}
+
+// Refusals 4 and 9 to 12.
+pub fn record_fault(r: Record) -> Outcome
+    ensures { λ x. ⌜ outcomeNumber x ≡ first (recordTests r) ⌝ }
+{
+    if index_too_large(r) {
+        return Outcome::Refused(Refusal::IndexTooLarge);
+    }
+    let rate = rate_fault(r);
+    if let Outcome::Refused(_) = rate {
+        return rate;
+    }
+    if mask_above_indices(r) {
+        return Outcome::Refused(Refusal::MaskAboveIndices);
+    }
+    Outcome::Done
+}

@@ -1,0 +1,151 @@
+-- Bits of numbers as code tests and sets them, and a number that grows by a bit at the top. Assumes nothing.
+use mathlib.Core.Path.{_≡_, refl, sym, ap, ap₂, _∙_}
+use Prim.Native.Nat.{ℕ, zero, suc, _+_, _*_, _/_, _%_, _^_, _≤_, _<_}
+use mathlib.Core.Bool.{Bool, true, false, not, Bool·beq}
+use mathlib.Core.List.{List, [], _∷_, _++_}
+use native.Mathlib.Nat.{not-suc-le-zero, div-one, zero-div, pow-suc, pow-succ', one-mul, mul-assoc, mul-left-comm}
+use native.Mathlib.Numerals.{add-one, one-add}
+use native.Mathlib.Omega.{arith}
+use lib.Bits.{bitAnd, bitOr, and-mask, or-shifted-r}
+use lib.Dec.{eqb}
+use lib.ListN.{length, getD, take, drop, replicate, length-append}
+use lib.Pow.{shl-exact, shr-shr}
+use mir.Val.{boolByte}
+use Rattle.standard.specs.Bits.{_⊕_, weight, positive, odd, bit, nth, numberOf, bitsOf}
+use Rattle.standard.proofs.Bits.{weight-lt, weight-odd, bit-suc, numberOf-lt, bits-back}
+
+-- ---- bits as code has them
+
+pub byte-weight : (b : Bool) → boolByte b ≡ weight b
+byte-weight true = refl
+byte-weight false = refl
+
+pub xor-bits : (a b : Bool) → not (Bool·beq a b) ≡ a ⊕ b
+xor-bits true true = refl
+xor-bits true false = refl
+xor-bits false true = refl
+xor-bits false false = refl
+
+pub odd-test : (n : ℕ) → eqb (n % 2) 1 ≡ odd n
+odd-test n = go (n % 2) (omega arith)
+  where
+    go : (x : ℕ) → x < 2 → eqb x 1 ≡ positive x
+    go zero h = refl
+    go (suc zero) h = refl
+    go (suc (suc x)) h = absurd (omega arith)
+
+pub low-test : (n : ℕ) → eqb (bitAnd n 1) 1 ≡ odd n
+low-test n = ap (λ (x : ℕ). eqb x 1) (and-mask n 1) ∙ odd-test n
+
+pub top-bit : (w n : ℕ) (b : Bool) → n < 64 → w < 2 ^ n → bitOr w (boolByte b * 2 ^ n % 2 ^ 64) ≡ w + weight b * 2 ^ n
+top-bit w n b h l =
+    ap (λ (x : ℕ). bitOr w (x * 2 ^ n % 2 ^ 64)) (byte-weight b)
+    ∙ ap (bitOr w) (shl-exact 1 n 64 (weight-lt b) (omega arith))
+    ∙ or-shifted-r (weight b) n w l
+    ∙ omega arith
+
+-- a number above six bits
+pub above-six : (s n : ℕ) → s < 64 → n < 2 ^ 42 → bitOr s (n * 64 % 2 ^ 64) ≡ s + 64 * n
+above-six s n hs hn = ap (bitOr s) (shl-exact 42 6 64 hn (omega arith)) ∙ or-shifted-r n 6 s hs ∙ omega arith
+
+-- 2 to the power k, by a shift
+pub one-shifted : (k : ℕ) → k < 64 → 1 * 2 ^ k % 2 ^ 64 ≡ 2 ^ k
+one-shifted k h = shl-exact 1 k 64 (omega arith) (omega arith) ∙ one-mul (2 ^ k)
+
+-- ---- one bit more
+
+bitsOf-snoc : (k n : ℕ) → bitsOf (suc k) n ≡ bitsOf k n ++ (bit n k ∷ [])
+unfolding bitsOf
+bitsOf-snoc zero n = ap (λ (x : ℕ). odd x ∷ []) (sym (div-one n))
+bitsOf-snoc (suc k) n = ap (λ (bs : List Bool). odd n ∷ bs) (bitsOf-snoc k (n / 2) ∙ ap (λ (b : Bool). bitsOf k (n / 2) ++ (b ∷ [])) (sym (bit-suc n k)))
+
+-- a code F of lists of bits that XORs each bit with what p makes of those before it
+pub coded-next : (F : List Bool → List Bool) (p : List Bool → Bool) → ((bs : List Bool) (b : Bool) → F (bs ++ (b ∷ [])) ≡ F bs ++ ((b ⊕ p bs) ∷ []))
+    → (w i : ℕ) (b t : Bool) → b ≡ bit w i → t ≡ p (bitsOf i w) → F (bitsOf (i + 1) w) ≡ F (bitsOf i w) ++ (not (Bool·beq b t) ∷ [])
+coded-next F p snoc w i b t eb et =
+    ap (λ (n : ℕ). F (bitsOf n w)) (add-one i)
+    ∙ ap F (bitsOf-snoc i w)
+    ∙ snoc (bitsOf i w) (bit w i)
+    ∙ ap (λ (x : Bool). F (bitsOf i w) ++ (x ∷ [])) (sym (xor-bits b t ∙ ap₂ _⊕_ eb et))
+
+pub bits-next : (w i : ℕ) (b : Bool) → b ≡ bit w i → bitsOf (i + 1) w ≡ bitsOf i w ++ (b ∷ [])
+bits-next w i b e = ap (λ (n : ℕ). bitsOf n w) (add-one i) ∙ bitsOf-snoc i w ∙ ap (λ (x : Bool). bitsOf i w ++ (x ∷ [])) (sym e)
+
+numberOf-snoc : (bs : List Bool) (b : Bool) → numberOf (bs ++ (b ∷ [])) ≡ numberOf bs + weight b * 2 ^ length bs
+unfolding numberOf
+numberOf-snoc [] b = omega arith
+numberOf-snoc (x ∷ bs) b = omega (arith, numberOf-snoc bs b, ap (λ (y : ℕ). weight b * y) (pow-succ' 2 (length bs)) ∙ mul-left-comm (weight b) 2 (2 ^ length bs))
+
+-- a number that holds the n bits bs
+pub record Held (bs : List Bool) (w n : ℕ) : Type 0 where
+  pub long : length bs ≡ n
+  pub value : w ≡ numberOf bs
+  pub small : w < 2 ^ n
+
+pub held : (bs : List Bool) (w n : ℕ) → length bs ≡ n → w ≡ numberOf bs → Held bs w n
+held bs w n l e = record { long = l; value = e; small = rw (e, ← l) (numberOf-lt bs) }
+
+pub held-none : Held [] 0 0
+unfolding numberOf
+held-none = held [] 0 0 refl refl
+
+pub held-more : {bs bs′ : List Bool} {w w′ n : ℕ} (b : Bool) → Held bs w n → w′ ≡ w + weight b * 2 ^ n → bs′ ≡ bs ++ (b ∷ []) → Held bs′ w′ (n + 1)
+held-more {bs} {bs′} {w} {w′} {n} b k e q =
+    held bs′ w′ (n + 1) (ap length q ∙ length-append bs (b ∷ []) ∙ ap (λ (x : ℕ). x + 1) (k .long))
+    (e ∙ ap₂ (λ (x y : ℕ). x + weight b * 2 ^ y) (k .value) (sym (k .long)) ∙ sym (ap numberOf q ∙ numberOf-snoc bs b))
+
+-- ---- the bits of a number, and the number of bits
+
+pub bits-take : (k n w : ℕ) → k ≤ n → take k (bitsOf n w) ≡ bitsOf k w
+unfolding bitsOf
+bits-take zero n w h = refl
+bits-take (suc k) zero w h = absurd (not-suc-le-zero h)
+bits-take (suc k) (suc n) w h = ap (λ (bs : List Bool). odd w ∷ bs) (bits-take k n (w / 2) (omega arith))
+
+bits-at : (k w i : ℕ) → i < k → getD (bitsOf k w) i false ≡ bit w i
+unfolding bitsOf
+bits-at zero w i h = absurd (not-suc-le-zero h)
+bits-at (suc k) w zero h = ap odd (sym (div-one w))
+bits-at (suc k) w (suc i) h = bits-at k (w / 2) i (omega arith) ∙ sym (bit-suc w i)
+
+-- bit i of the number that bits form is bit i of them
+pub number-bit : (bs : List Bool) (i : ℕ) → i < length bs → bit (numberOf bs) i ≡ nth bs i
+unfolding nth
+number-bit bs i h = sym (bits-at (length bs) (numberOf bs) i h) ∙ ap (λ (xs : List Bool). getD xs i false) (bits-back (length bs) bs refl)
+
+-- its lowest bits are the first of them
+pub number-take : (k : ℕ) (bs : List Bool) → k ≤ length bs → bitsOf k (numberOf bs) ≡ take k bs
+number-take k bs h = sym (bits-take k (length bs) (numberOf bs) h) ∙ ap (take k) (bits-back (length bs) bs refl)
+
+-- and its higher ones are those that follow
+pub number-drop : (k : ℕ) (bs : List Bool) → numberOf bs / 2 ^ k ≡ numberOf (drop k bs)
+unfolding numberOf
+number-drop zero bs = div-one (numberOf bs)
+number-drop (suc k) [] = zero-div (2 ^ suc k)
+number-drop (suc k) (b ∷ bs) =
+    let half : (weight b + 2 * numberOf bs) / 2 ≡ numberOf bs = omega (arith, weight-lt b) in
+    ap (λ (j : ℕ). (weight b + 2 * numberOf bs) / 2 ^ j) (sym (one-add k))
+    ∙ sym (shr-shr (weight b + 2 * numberOf bs) 1 k)
+    ∙ ap (λ (x : ℕ). x / 2 ^ k) half
+    ∙ number-drop k bs
+
+pub number-append : (a b : List Bool) → numberOf (a ++ b) ≡ numberOf a + 2 ^ length a * numberOf b
+unfolding numberOf
+number-append [] b = omega arith
+number-append (x ∷ a) b = omega (arith, number-append a b, ap (λ (y : ℕ). y * numberOf b) (pow-succ' 2 (length a)) ∙ mul-assoc 2 (2 ^ length a) (numberOf b))
+
+-- a number of k bits is that of its k lowest bits
+pub bits-number : (k n : ℕ) → n < 2 ^ k → numberOf (bitsOf k n) ≡ n
+unfolding bitsOf numberOf
+bits-number zero n h = omega arith
+bits-number (suc k) n h = omega (arith, bits-number k (n / 2) (omega (arith, pow-suc 2 k)), weight-odd n)
+
+pub zero-bits : (k : ℕ) → bitsOf k 0 ≡ replicate k false
+unfolding bitsOf
+zero-bits zero = refl
+zero-bits (suc k) = ap (λ (bs : List Bool). false ∷ bs) (zero-bits k)
+
+pub zero-number : (k : ℕ) → numberOf (replicate k false) ≡ 0
+unfolding numberOf
+zero-number zero = refl
+zero-number (suc k) = omega (arith, zero-number k)
