@@ -1,24 +1,20 @@
 -- What an accepted call of the sender and of the receiver reads, writes and leaves. Assumes nothing.
-use mathlib.Core.Path.{_≡_, refl, sym, ap, ap₂, _∙_}
-use Prim.Native.Nat.{ℕ, zero, _+_, _*_, _/_, _≤_, _<_}
-use mathlib.Core.Bool.{Bool, true, false, _||_}
-use mathlib.Core.List.{List, _++_}
+use mathlib.Core.Path.{_≡_, _∙_}
+use Prim.Native.Nat.{_*_, _<_}
+use mathlib.Core.Bool.{true}
 use native.Mathlib.Omega.{arith}
 use borrow.Author.Tests.{ltb-false, eqb-true}
 use lib.ListN.{length, take, drop}
 use lib.Seq.{length-take-le, take-at}
-use Rattle.standard.specs.First.{first}
-use Rattle.standard.specs.Bits.{bitsIn, bytesOf, bytesFor, nth}
-use Rattle.standard.specs.Record.{D}
+use Rattle.standard.specs.Bits.{bitsIn, bytesFor}
 use Rattle.standard.specs.Frame.{dataBits, sendFrames, sendAfter, receiveFrames, receiveMarks, receiveAfter}
-use Rattle.standard.specs.Refusals.{shorter, frameTests}
 use Rattle.standard.specs.Calls.{accepted, SendCall, sendRefusal, sendBits, sendLeft, sendOctets, ReceiveCall, receiveRefusal, receiveOctets, receiveLeft, receiveBytes, receiveMarked}
 use Rattle.standard.specs.declared.Law.{Law}
 use Rattle.standard.specs.declared.LineState.{LineState}
 use Rattle.standard.specs.declared.Record.{Record}
 use Rattle.standard.proofs.Bits.{length-bitsIn, bits-written}
 use Rattle.standard.proofs.Frame.{Holds, length-sendFrames, length-receiveFrames, length-receiveMarks}
-use Rattle.standard.proofs.Refusals.{Passed, passed, holds-passed}
+use Rattle.standard.proofs.Refusals.{passed, holds-passed}
 
 pub record Sends (r : Record) (l : Law) (st : LineState) (c : SendCall) : Type 0 where
   pub many : length (sendBits c) ≡ dataBits r (c .frames)

@@ -1,19 +1,19 @@
 -- Laws of CP: what each bit of the sequence of a record is. Assumes nothing.
-use mathlib.Core.Path.{_≡_, refl, sym, ap, ap₂, _∙_}
+use mathlib.Core.Path.{_≡_, refl, ap, ap₂, _∙_}
 use mathlib.Core.Logic.{_⊎_, inl, inr}
-use Prim.Native.Nat.{ℕ, zero, suc, _+_, _-_, _*_, _/_, _%_, _^_, _≤_, _<_}
+use Prim.Native.Nat.{ℕ, zero, suc, _+_, _-_, _*_, _/_, _%_, _≤_, _<_}
 use mathlib.Core.Bool.{Bool, true, false, cond, _&&_, _||_}
 use mathlib.Core.List.{List, [], _∷_, _++_, append-assoc}
-use native.Mathlib.Decide.{decLe, decLt}
-use native.Mathlib.Nat.{not-suc-le-zero, eq-or-lt-of-le}
+use native.Mathlib.Decide.{decLe}
+use native.Mathlib.Nat.{eq-or-lt-of-le}
 use native.Mathlib.Omega.{arith}
 use borrow.Author.Tests.{le-leb, lt-leb, lt-ltb, le-ltb}
-use lib.Dec.{T, lit<, lit≤, leb, ltb, leb→le}
+use lib.Dec.{T, leb, ltb, leb→le}
 use Rattle.standard.specs.Lists.{listFrom}
-use Rattle.standard.specs.Bits.{weight, bit, field}
+use Rattle.standard.specs.Bits.{bit}
 use Rattle.standard.specs.Record.{topIndex, inMask}
 use Rattle.standard.specs.Crc.{crcBelow}
-use Rattle.standard.specs.Cp.{gamma, runPlace, Field, put, covers, bitIn, headFields, maskRun, maskFields, cpBody, crcField, cpBit}
+use Rattle.standard.specs.Cp.{gamma, runPlace, Field, covers, bitIn, headFields, maskRun, maskFields, cpBody, crcField, cpBit}
 use Rattle.standard.specs.declared.Record.{Record}
 use Rattle.standard.proofs.Lists.{or-none, and-left, and-right}
 use Rattle.standard.proofs.Bits.{field-bit}

@@ -1,22 +1,22 @@
 -- Laws of a data frame, there and back, and of N frames. Assumes nothing.
-use mathlib.Core.Path.{_≡_, refl, sym, ap, ap₂, _∙_}
-use Prim.Native.Nat.{ℕ, zero, suc, _+_, _*_, _^_, _≤_, _<_}
+use mathlib.Core.Path.{_≡_, sym, ap, _∙_}
+use Prim.Native.Nat.{ℕ, _+_, _*_, _^_, _≤_, _<_}
 use mathlib.Core.Bool.{Bool, true, false, cond, not}
-use mathlib.Core.List.{List, [], _∷_, _++_, map, map-append}
+use mathlib.Core.List.{List, [], _∷_, _++_, map-append}
 use native.Mathlib.Nat.{le-trans, zero-add}
 use native.Mathlib.Omega.{arith}
 use borrow.Author.Tests.{lt-leb, le-leb}
 use lib.Dec.{lit<, leb}
 use lib.ListN.{length, getD, take, drop, replicate, length-append, length-drop, length-map, length-replicate, take-append-drop}
 use lib.Seq.{length-take-le}
-use Rattle.standard.specs.Lists.{listFrom, parts, joined, each, after}
-use Rattle.standard.specs.First.{Test, test, first}
+use Rattle.standard.specs.Lists.{listFrom, parts, each, after}
+use Rattle.standard.specs.First.{Test, test}
 use Rattle.standard.specs.Bits.{nth, numberOf, bitsOf}
 use Rattle.standard.specs.Record.{K, D}
 use Rattle.standard.specs.Scrambler.{pushAll, descramble}
 use Rattle.standard.specs.Constellation.{member, size, label, point, sizes}
-use Rattle.standard.specs.Modulus.{product, labels, number}
-use Rattle.standard.specs.Signs.{signsOf, signBits}
+use Rattle.standard.specs.Modulus.{product, number}
+use Rattle.standard.specs.Signs.{signBits}
 use Rattle.standard.specs.Octets.{octet, signOf, ucodeOf}
 use Rattle.standard.specs.Frame.{lineBits, frameSigns, frameLabels, frameOctets, sendFrame, sendNext, signAt, ucodeAt, receivedNumber, outsideTests, markTests, mark, good, heardBits, receiveFrame, receiveNext, sendFrames, sendAfter, receiveFrames, receiveMarks, receiveAfter}
 use Rattle.standard.specs.declared.Law.{Law}

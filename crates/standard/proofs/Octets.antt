@@ -1,6 +1,6 @@
 -- Laws of octets: both laws of V.90 Table 1, there and back, by one computed test over the table. Assumes nothing.
-use mathlib.Core.Path.{_≡_, refl, ap, _∙_}
-use Prim.Native.Nat.{ℕ, _%_, _<_}
+use mathlib.Core.Path.{_≡_}
+use Prim.Native.Nat.{ℕ, _<_}
 use mathlib.Core.Bool.{Bool, true, false, _&&_, Bool·beq}
 use native.Mathlib.Nat.{mod-lt}
 use lib.Dec.{T, eqb, ltb, eqb→eq, ltb→lt, lit<}

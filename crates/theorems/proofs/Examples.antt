@@ -1,6 +1,6 @@
 -- The bench examples. Assumes nothing.
 use mathlib.Core.Path.{_≡_, refl, sym, _∙_}
-use Prim.Native.Nat.{ℕ, _+_, _^_, _≤_, _<_}
+use Prim.Native.Nat.{ℕ, _^_, _<_}
 use mathlib.Core.Bool.{true}
 use mathlib.Core.List.{List}
 use native.Mathlib.Nat.{suc-ne-zero}
@@ -25,7 +25,7 @@ use Rattle.standard.proofs.Lists.{every, every-at, T→true}
 use Rattle.standard.proofs.Constellation.{label-below}
 use Rattle.standard.proofs.Modulus.{within-listFrom, number-lt}
 use Rattle.standard.proofs.Octets.{ucode-lt}
-use Rattle.standard.proofs.Frame.{Belong, mark-zero}
+use Rattle.standard.proofs.Frame.{mark-zero}
 use Rattle.theorems.specs.Examples.{all, table, full, ExamplesHold}
 
 rows-hold : all table ≡ true

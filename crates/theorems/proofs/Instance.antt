@@ -1,12 +1,12 @@
 -- An instance of demand 3's premises: refused calls between accepted ones, damage, a receiver in another state, lists cut differently. Assumes nothing.
 use mathlib.Core.Path.{_≡_, refl, sym, ap, _∙_}
 use mathlib.Core.Logic.{_⊎_, inl, inr}
-use Prim.Native.Nat.{ℕ, zero, suc, _+_, _*_, _<_, _≤_}
+use Prim.Native.Nat.{ℕ, zero, suc, _+_, _*_, _<_}
 use mathlib.Core.Bool.{true, false}
 use mathlib.Core.List.{List, [], _∷_}
 use native.Mathlib.Omega.{arith}
 use lib.Dec.{lit≤}
-use lib.ListN.{length, getD, take, drop, replicate}
+use lib.ListN.{getD, take, drop, replicate}
 use lib.Seq.{getD-drop}
 use Rattle.standard.specs.Lists.{listFrom, any, largest, parts, joined, each, after}
 use Rattle.standard.specs.First.{first}
@@ -22,7 +22,7 @@ use Rattle.standard.specs.Refusals.{indexTooLarge, drnTooLarge, grantedBelowFul
 use Rattle.standard.specs.Calls.{SendCall, sendRefusal, sendBits, sendLeft, sendOctets, ReceiveCall, receiveRefusal, receiveOctets, receiveLeft, receiveBytes, receiveMarked}
 use Rattle.standard.specs.declared.Law.the-variants.{Mu, A}
 use Rattle.theorems.specs.Examples.{common, full, state}
-use Rattle.theorems.specs.Runs.{overCalls, AllCalls, message, sent, octetsRead, handedOver, marksGiven, SendsWith, ReceivesWith, Damage, clean, frames, Carried, Run, Delivered}
+use Rattle.theorems.specs.Runs.{overCalls, AllCalls, message, sent, octetsRead, handedOver, marksGiven, SendsWith, ReceivesWith, frames, Carried, Run, Delivered}
 use Rattle.theorems.proofs.Runs.{runs}
 
 abbrev send : ℕ → List ℕ → SendCall

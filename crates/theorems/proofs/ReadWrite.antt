@@ -1,30 +1,29 @@
 -- Reading then writing returns the bytes where all ignored bits were zero. Assumes nothing.
 use mathlib.Core.Path.{_≡_, refl, sym, ap, ap₂, _∙_, subst}
 use mathlib.Core.Logic.{_⊎_, inl, inr}
-use Prim.Native.Nat.{ℕ, zero, suc, _+_, _-_, _*_, _/_, _%_, _^_, _≤_, _<_, zero-le}
+use Prim.Native.Nat.{ℕ, zero, suc, _+_, _-_, _*_, _/_, _%_, _≤_, _<_, zero-le}
 use mathlib.Core.Bool.{Bool, true, false, cond, not, _&&_, _||_}
-use mathlib.Core.List.{List, [], _∷_, _++_}
+use mathlib.Core.List.{List, [], _∷_}
 use native.Mathlib.Decide.{decLe, decLt, ℕ-discrete as decEq}
 use native.Mathlib.Nat.{div-one}
 use native.Mathlib.Omega.{arith}
 use borrow.Author.Tests.{ltb-false, lt-ltb, le-ltb, le-leb, lt-leb, leb-true, eqb-true, eq-eqb, not-false}
-use lib.Dec.{T, lit<, lit≤, eqb, leb, ltb}
-use lib.ListN.{length, getD, take, drop}
-use lib.Seq.{length-take-le}
-use Rattle.standard.specs.Lists.{listFrom, any, largest}
+use lib.Dec.{T, lit<, eqb, leb, ltb}
+use lib.ListN.{length, getD, take}
+use Rattle.standard.specs.Lists.{any, largest}
 use Rattle.standard.specs.First.{first}
-use Rattle.standard.specs.Bits.{weight, odd, bit, bitAt, field, bytesOf}
+use Rattle.standard.specs.Bits.{weight, odd, bit, bitAt, field}
 use Rattle.standard.specs.Record.{indexOf, topIndex, halfOf, inMask}
 use Rattle.standard.specs.Crc.{crcBelow}
 use Rattle.standard.specs.Cp.{gamma, cpLength, cpByteCount, runPlace, Field, covers, bitIn, headFields, cpBody, cpBit, cpBytes, indexIn, maskBitIn, halfIn, recordIn, crcMatches, startBitSet, within, reserved, ignored}
-use Rattle.standard.specs.Refusals.{shorter, countExceedsBytes, countTooSmall, syncBroken, indexTooLarge, lengthWrong, fixedBitWrong, rateTests, recordTests, readTests, writeTests}
+use Rattle.standard.specs.Refusals.{shorter, countExceedsBytes, syncBroken, lengthWrong, fixedBitWrong, rateTests, recordTests, readTests, writeTests}
 use Rattle.standard.specs.Calls.{over, readRefusal, readRecord, writeRefusal, writeBytes}
 use Rattle.standard.specs.declared.Record.{Record}
-use Rattle.standard.proofs.Lists.{getD-list, any-none, or-none, every, every-at, T→true, beq→eq, largest-ext}
+use Rattle.standard.proofs.Lists.{getD-list, any-none, or-none, every, every-at, T→true, largest-ext}
 use Rattle.standard.proofs.First.{first-none}
-use Rattle.standard.proofs.Bits.{odd-weight, field-bit, bytesOf-ext, bytes-back, length-bytesOf}
+use Rattle.standard.proofs.Bits.{odd-weight, field-bit, bytesOf-ext, bytes-back}
 use Rattle.standard.proofs.Crc.{crcBelow-ext}
-use Rattle.standard.proofs.Cp.{covered, bitIn-none, cp-body, cp-head, cp-mask, cp-crc, cp-zero}
+use Rattle.standard.proofs.Cp.{covered, cp-body, cp-head, cp-mask, cp-crc, cp-zero}
 use Rattle.standard.proofs.Refusals.{top-lt, zero-half, applied, not-applied}
 use Rattle.theorems.specs.RoundTrip.{ReadThenWrite}
 

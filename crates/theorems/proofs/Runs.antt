@@ -13,14 +13,13 @@ use Rattle.standard.specs.Lists.{joined, each}
 use Rattle.standard.specs.Bits.{nth}
 use Rattle.standard.specs.Record.{D}
 use Rattle.standard.specs.Frame.{dataBits, sendFrame, sendNext, receiveFrame, receiveNext, mark}
-use Rattle.standard.specs.Calls.{SendCall, ReceiveCall}
 use Rattle.standard.specs.declared.Law.{Law}
 use Rattle.standard.specs.declared.LineState.{LineState}
 use Rattle.standard.specs.declared.Record.{Record}
 use Rattle.standard.proofs.Lists.{Sized, sized-at, length-joined, joined-at, joined-inj, length-each, sized-each}
 use Rattle.standard.proofs.Modulus.{positive-factor}
 use Rattle.standard.proofs.Frame.{Holds, sent-mark, length-sendFrame, length-receiveFrame}
-use Rattle.theorems.specs.Runs.{message, sent, SendsWith, Damage, clean, frames, Outside, Unaltered, Carried, reach, Beyond, Same, Run, Delivered, RunsDeliver, MessagesDiffer}
+use Rattle.theorems.specs.Runs.{message, Damage, clean, frames, Outside, Unaltered, Carried, reach, Beyond, Same, Delivered, RunsDeliver, MessagesDiffer}
 use Rattle.theorems.proofs.Ends.{start, past-damage}
 use Rattle.theorems.proofs.Doubt.{Near, near-any, near-same, link, mends}
 use Rattle.theorems.proofs.OverCalls.{SendRun, send-run, ReceiveRun, receive-run, sized-fits, map-whole}

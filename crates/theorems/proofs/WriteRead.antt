@@ -1,23 +1,23 @@
 -- Writing then reading returns the record. Assumes nothing.
 use mathlib.Core.Path.{_≡_, refl, sym, ap, ap₂, _∙_}
-use mathlib.Core.Logic.{_⊎_, inl, inr}
+use mathlib.Core.Logic.{inl}
 use Prim.Native.Nat.{ℕ, zero, suc, _+_, _-_, _*_, _/_, _%_, _^_, _≤_, _<_}
-use mathlib.Core.Bool.{Bool, true, false, cond, not, _||_}
-use mathlib.Core.List.{List, [], _∷_, _++_}
+use mathlib.Core.Bool.{Bool, true, false, not}
+use mathlib.Core.List.{List, _++_}
 use native.Mathlib.Decide.{decLe}
 use native.Mathlib.Nat.{div-one, mod-eq-of-lt}
 use native.Mathlib.Omega.{arith}
 use borrow.Author.Tests.{ltb-false, le-ltb, le-leb, lt-leb, eq-eqb, not-true}
-use lib.Dec.{T, lit<, lit≤, eqb, leb}
-use lib.ListN.{length, getD, drop, length-append}
+use lib.Dec.{T, lit<, lit≤, eqb}
+use lib.ListN.{length, drop, length-append}
 use Rattle.standard.specs.Lists.{listFrom, any, largest}
 use Rattle.standard.specs.First.{first}
-use Rattle.standard.specs.Bits.{weight, bit, bitAt, field, bytesOf}
+use Rattle.standard.specs.Bits.{weight, bit, bitAt, field}
 use Rattle.standard.specs.Record.{indexOf, topIndex, halfOf, inMask}
 use Rattle.standard.specs.Crc.{crcBelow}
 use Rattle.standard.specs.Cp.{gamma, cpLength, cpByteCount, runPlace, bitIn, headFields, cpBody, cpBit, cpBytes, indexIn, maskBitIn, halfIn, recordIn, crcMatches, startBitSet}
 use Rattle.standard.specs.Refusals.{countExceedsBytes, countTooSmall, syncBroken, indexTooLarge, lengthWrong, fixedBitWrong, drnTooLarge, grantedBelowFullRate, productTooSmall, maskAboveIndices, rateTests, recordTests, readTests, writeTests}
-use Rattle.standard.specs.Calls.{readRefusal, readRecord, WriteCall, writeRefusal, writeBitCount, writeBytes}
+use Rattle.standard.specs.Calls.{readRefusal, readRecord, writeRefusal, writeBitCount, writeBytes}
 use Rattle.standard.specs.declared.Record.{Record}
 use Rattle.standard.proofs.Lists.{listFrom-is, none-any, every, every-at, T→true, largest-ext}
 use Rattle.standard.proofs.First.{first-none}

@@ -14,7 +14,7 @@ use Rattle.standard.specs.Modulus.{product}
 use Rattle.standard.specs.Octets.{octet}
 use Rattle.standard.specs.Frame.{lineBits, fresh, sendFrames, sendAfter, receivedNumber, mark, receiveFrames}
 use Rattle.standard.specs.Refusals.{recordTests}
-use Rattle.standard.specs.Calls.{ReadCall, readRefusal}
+use Rattle.standard.specs.Calls.{readRefusal}
 use Rattle.standard.specs.declared.Law.{Law}
 use Rattle.standard.specs.declared.Law.the-variants.{Mu, A}
 use Rattle.standard.specs.declared.LineState.{LineState}
