@@ -1,8 +1,8 @@
-// Bits in byte buffers: bit n is in byte n / 8, with weight 2 ^ (n % 8), and fields have their lowest bit first.
+// Bits in byte buffers and in numbers: bit n of a buffer is in byte n / 8, with weight 2 ^ (n % 8), and fields have their lowest bit first.
 ghost use mathlib.Core.Path.{_≡_};
-ghost use Prim.Native.Nat.{_+_, _*_, _^_, _<_, _≤_};
+ghost use Prim.Native.Nat.{_+_, _*_, _/_, _^_, _<_, _≤_};
 ghost use lib.ListN.{length};
-ghost use Rattle.standard.specs.Bits.{weight, bitAt, field};
+ghost use Rattle.standard.specs.Bits.{weight, bit, bitAt, field};
 ghost use Rattle.bits.specs.PutField.{byteWith, putField};
 
 // Bit n of the bytes; 0 past their end.
@@ -59,4 +59,28 @@ pub fn put_field(bytes: &mut [u8], at: usize, width: usize, value: u64)
         put_bit(bytes, at + i, (value >> i) % 2 == 1);
         i += 1;
     }
+}
+
+// Bit n of a number.
+pub fn bit_of(word: u64, n: usize) -> bool
+    requires { ⌜ n < 64 ⌝ }
+    ensures { λ r. ⌜ r ≡ bit word n ⌝ }
+{
+    (word >> n) & 1 == 1
+}
+
+// A number of n bits with one bit more, on top.
+pub fn with_top(word: u64, n: usize, top: bool) -> u64
+    requires { ⌜ (n < 64) × (word < 2 ^ n) ⌝ }
+    ensures { λ r. ⌜ r ≡ word + weight top * 2 ^ n ⌝ }
+{
+    word | ((top as u64) << n)
+}
+
+// The bits of a number above bit n.
+pub fn above(word: u64, n: u8) -> u64
+    requires { ⌜ n < 64 ⌝ }
+    ensures { λ r. ⌜ r ≡ word / 2 ^ n / 2 ⌝ }
+{
+    (word >> n) >> 1
 }

@@ -1,9 +1,10 @@
+use bits::above;
+use bits::bit_of;
 use standard::Outcome;
 use standard::Record;
 use standard::Refusal;
 ghost use mathlib.Core.Path.{_≡_};
 ghost use Prim.Native.Nat.{_<_, _≤_, max};
-ghost use Rattle.standard.specs.Bits.{bit};
 ghost use Rattle.standard.specs.First.{first};
 ghost use Rattle.standard.specs.Record.{indexOf, topIndex};
 ghost use Rattle.standard.specs.Constellation.{sizeOf, labelOf, pointOf, sizes};
@@ -12,14 +13,6 @@ ghost use Rattle.standard.specs.Refusals.{outcomeNumber, indexTooLarge, granted
 ghost use Rattle.constellation.specs.Mask.{has, maskOf, Indexed};
 
 // Masks: sizes, membership, labels and points, and what a record is refused for.
-
-// Bit n of a number.
-fn bit_of(word: u64, n: usize) -> bool
-    requires { ⌜ n < 64 ⌝ }
-    ensures { λ r. ⌜ r ≡ bit word n ⌝ }
-{
-    (word >> n) & 1 == 1
-}
 
 // A mask: Ucodes 0 to 63 and 64 to 127, a bit for each.
 pub struct Mask {
@@ -65,24 +58,24 @@ pub fn label_of(m: Mask, ucode: u8) -> u64
     ensures { λ r. ⌜ r ≡ labelOf (has m) 128 ucode ⌝ }
 {
     if ucode < 64 {
-        return (u64::count_ones((m.low >> ucode) >> 1) + u64::count_ones(m.high)) as u64;
+        return (u64::count_ones(above(m.low, ucode)) + u64::count_ones(m.high)) as u64;
     }
-    u64::count_ones((m.high >> (ucode - 64)) >> 1) as u64
+    u64::count_ones(above(m.high, ucode - 64)) as u64
 }
 
 // The Ucode that a label names: the one with as many members of the mask above it.
 pub fn point_of(m: Mask, label: u64) -> u8
     ensures { λ r. ⌜ (r ≡ pointOf (has m) 128 label) × (r < 128) ⌝ }
 {
-    let mut above = label;
+    let mut left = label;
     let mut u: u8 = 128;
     while 0 < u {
         u -= 1;
         if belongs(m, u) {
-            if above == 0 {
+            if left == 0 {
                 return u;
             }
-            above -= 1;
+            left -= 1;
         }
     }
     0

@@ -18,7 +18,7 @@ use Rattle.standard.specs.Constellation.{member, size, label, point, siz
 use Rattle.standard.specs.Modulus.{product, number}
 use Rattle.standard.specs.Signs.{signBits}
 use Rattle.standard.specs.Octets.{octet, signOf, ucodeOf}
-use Rattle.standard.specs.Frame.{lineBits, frameSigns, frameLabels, frameOctets, sendFrame, sendNext, signAt, ucodeAt, receivedNumber, outsideTests, markTests, mark, good, heardBits, receiveFrame, receiveNext, sendFrames, sendAfter, receiveFrames, receiveMarks, receiveAfter}
+use Rattle.standard.specs.Frame.{lineBits, frameSigns, frameLabels, frameOctets, sendFrame, sendNext, signAt, ucodeAt, receivedNumber, outsideTest, outsideTests, markTests, mark, good, heardBits, receiveFrame, receiveNext, sendFrames, sendAfter, receiveFrames, receiveMarks, receiveAfter}
 use Rattle.standard.specs.declared.Law.{Law}
 use Rattle.standard.specs.declared.LineState.{LineState}
 use Rattle.standard.specs.declared.Record.{Record}
@@ -55,9 +55,9 @@ module _ (r : Record) (l : Law) (os : List ℕ) where
   Belong = (i : ℕ) → i < 6 → member r i (ucodeAt l os i) ≡ true
 
   none-outside : Belong → None (outsideTests r l os)
-  unfolding outsideTests
+  unfolding outsideTests outsideTest
   none-outside all =
-      none-listFrom (λ i. test (i + 1) (not (member r i (ucodeAt l os i)))) 0 6
+      none-listFrom (outsideTest r l os) 0 6
       (λ i h. ap (λ (k : ℕ). not (member r k (ucodeAt l os k))) (zero-add i) ∙ ap not (all i h))
 
   abbrev tooLarge : List Test

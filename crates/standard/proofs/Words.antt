@@ -3,7 +3,7 @@ use mathlib.Core.Path.{_≡_, refl, sym, ap, ap₂, _∙_}
 use Prim.Native.Nat.{ℕ, zero, suc, _+_, _*_, _/_, _%_, _^_, _≤_, _<_}
 use mathlib.Core.Bool.{Bool, true, false, not, Bool·beq}
 use mathlib.Core.List.{List, [], _∷_, _++_}
-use native.Mathlib.Nat.{not-suc-le-zero, div-one, zero-div, pow-suc, pow-succ', one-mul, mul-assoc, mul-left-comm}
+use native.Mathlib.Nat.{not-suc-le-zero, div-one, zero-div, pow-suc, pow-succ', one-mul, mul-comm, mul-assoc}
 use native.Mathlib.Numerals.{add-one, one-add}
 use native.Mathlib.Omega.{arith}
 use lib.Bits.{bitAnd, bitOr, and-mask, or-shifted-r}
@@ -71,10 +71,16 @@ coded-next F p snoc w i b t eb et =
 pub bits-next : (w i : ℕ) (b : Bool) → b ≡ bit w i → bitsOf (i + 1) w ≡ bitsOf i w ++ (b ∷ [])
 bits-next w i b e = ap (λ (n : ℕ). bitsOf n w) (add-one i) ∙ bitsOf-snoc i w ∙ ap (λ (x : Bool). bitsOf i w ++ (x ∷ [])) (sym e)
 
+pub number-append : (a b : List Bool) → numberOf (a ++ b) ≡ numberOf a + 2 ^ length a * numberOf b
+unfolding numberOf
+number-append [] b = omega arith
+number-append (x ∷ a) b = omega (arith, number-append a b, ap (λ (y : ℕ). y * numberOf b) (pow-succ' 2 (length a)) ∙ mul-assoc 2 (2 ^ length a) (numberOf b))
+
 numberOf-snoc : (bs : List Bool) (b : Bool) → numberOf (bs ++ (b ∷ [])) ≡ numberOf bs + weight b * 2 ^ length bs
 unfolding numberOf
-numberOf-snoc [] b = omega arith
-numberOf-snoc (x ∷ bs) b = omega (arith, numberOf-snoc bs b, ap (λ (y : ℕ). weight b * y) (pow-succ' 2 (length bs)) ∙ mul-left-comm (weight b) 2 (2 ^ length bs))
+numberOf-snoc bs b =
+    let z : weight b + 2 * 0 ≡ weight b = omega arith in
+    number-append bs (b ∷ []) ∙ ap (λ (x : ℕ). numberOf bs + 2 ^ length bs * x) z ∙ ap (λ (x : ℕ). numberOf bs + x) (mul-comm (2 ^ length bs) (weight b))
 
 -- a number that holds the n bits bs
 pub record Held (bs : List Bool) (w n : ℕ) : Type 0 where
@@ -128,11 +134,6 @@ number-drop (suc k) (b ∷ bs) =
     ∙ sym (shr-shr (weight b + 2 * numberOf bs) 1 k)
     ∙ ap (λ (x : ℕ). x / 2 ^ k) half
     ∙ number-drop k bs
-
-pub number-append : (a b : List Bool) → numberOf (a ++ b) ≡ numberOf a + 2 ^ length a * numberOf b
-unfolding numberOf
-number-append [] b = omega arith
-number-append (x ∷ a) b = omega (arith, number-append a b, ap (λ (y : ℕ). y * numberOf b) (pow-succ' 2 (length a)) ∙ mul-assoc 2 (2 ^ length a) (numberOf b))
 
 -- a number of k bits is that of its k lowest bits
 pub bits-number : (k n : ℕ) → n < 2 ^ k → numberOf (bitsOf k n) ≡ n

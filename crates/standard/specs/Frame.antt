@@ -64,8 +64,11 @@ unfoldable pub receivedNumber : Record → Law → List ℕ → ℕ
 receivedNumber r l os = number (sizes r) (listFrom (λ i. label r i (ucodeAt l os i)) 0 6)
 
 -- 'Mark i + 1 names the first interval whose Ucode is outside its mask.'
+unfoldable pub outsideTest : Record → Law → List ℕ → ℕ → Test
+outsideTest r l os i = test (i + 1) (not (member r i (ucodeAt l os i)))
+
 unfoldable pub outsideTests : Record → Law → List ℕ → List Test
-outsideTests r l os = listFrom (λ i. test (i + 1) (not (member r i (ucodeAt l os i)))) 0 6
+outsideTests r l os = listFrom (outsideTest r l os) 0 6
 
 -- 'Mark 7 means all six belong but their number R is 2^K or more.'
 unfoldable pub markTests : Record → Law → List ℕ → List Test

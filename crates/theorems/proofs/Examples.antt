@@ -17,7 +17,7 @@ use Rattle.standard.specs.Constellation.{sizeOf, labelOf, pointOf, member, size
 use Rattle.standard.specs.Modulus.{product, labels, number}
 use Rattle.standard.specs.Signs.{signsOf, signBits}
 use Rattle.standard.specs.Octets.{positiveOctet, octet, signOf, ucodeOf}
-use Rattle.standard.specs.Frame.{fresh, ucodeAt, lineBits, frameSigns, frameLabels, frameOctets, sendFrame, sendNext, receivedNumber, outsideTests, markTests, mark, heardBits, receiveFrame, receiveNext, sendFrames, sendAfter, receiveFrames, receiveMarks, receiveAfter}
+use Rattle.standard.specs.Frame.{fresh, ucodeAt, lineBits, frameSigns, frameLabels, frameOctets, sendFrame, sendNext, receivedNumber, outsideTest, outsideTests, markTests, mark, heardBits, receiveFrame, receiveNext, sendFrames, sendAfter, receiveFrames, receiveMarks, receiveAfter}
 use Rattle.standard.specs.Refusals.{countExceedsBytes, countTooSmall, syncBroken, indexTooLarge, lengthWrong, fixedBitWrong, drnTooLarge, grantedBelowFullRate, productTooSmall, maskAboveIndices, rateTests, recordTests, readTests}
 use Rattle.standard.specs.Calls.{readRefusal}
 use Rattle.standard.specs.declared.Law.{Law}
@@ -29,7 +29,7 @@ use Rattle.standard.proofs.Frame.{mark-zero}
 use Rattle.theorems.specs.Examples.{all, table, full, ExamplesHold}
 
 rows-hold : all table ≡ true
-unfolding table listFrom any largest parts joined each after first bitAt bitsIn field bytesOf nth numberOf bitsOf topIndex inMask crcStep crcBelow bitIn headFields maskFields cpBody crcField cpBit cpBytes maskBitIn halfIn recordIn crcMatches startBitSet taps push pushAll scramble descramble sizeOf labelOf pointOf member sizes product labels number signsOf signBits positiveOctet octet signOf ucodeOf fresh lineBits frameSigns frameLabels frameOctets sendFrame sendNext receivedNumber outsideTests markTests mark heardBits receiveFrame receiveNext sendFrames sendAfter receiveFrames receiveMarks receiveAfter countExceedsBytes countTooSmall syncBroken indexTooLarge lengthWrong fixedBitWrong drnTooLarge grantedBelowFullRate productTooSmall maskAboveIndices rateTests recordTests readTests readRefusal
+unfolding table listFrom any largest parts joined each after first bitAt bitsIn field bytesOf nth numberOf bitsOf topIndex inMask crcStep crcBelow bitIn headFields maskFields cpBody crcField cpBit cpBytes maskBitIn halfIn recordIn crcMatches startBitSet taps push pushAll scramble descramble sizeOf labelOf pointOf member sizes product labels number signsOf signBits positiveOctet octet signOf ucodeOf fresh lineBits frameSigns frameLabels frameOctets sendFrame sendNext receivedNumber outsideTest outsideTests markTests mark heardBits receiveFrame receiveNext sendFrames sendAfter receiveFrames receiveMarks receiveAfter countExceedsBytes countTooSmall syncBroken indexTooLarge lengthWrong fixedBitWrong drnTooLarge grantedBelowFullRate productTooSmall maskAboveIndices rateTests recordTests readTests readRefusal
 rows-hold = refl
 
 -- ---- B10: with full masks every Ucode belongs, and the labels of any six form a number below 2^42

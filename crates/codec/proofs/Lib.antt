@@ -1,0 +1,4 @@
+pub mod Buffers
+pub mod Loops
+pub mod Faults
+pub mod Entries

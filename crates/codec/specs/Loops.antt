@@ -1,0 +1,30 @@
+-- What holds after n of the N frames of a call. Assumes nothing.
+use mathlib.Core.Path.{_≡_}
+use Prim.Native.Nat.{ℕ, _*_, _^_, _≤_, _<_}
+use mathlib.Core.Bool.{Bool}
+use mathlib.Core.List.{List, _++_}
+use lib.ListN.{length, drop}
+use Rattle.standard.specs.Bits.{nth}
+use Rattle.standard.specs.Frame.{dataBits, sendFrames, sendAfter, receiveFrames, receiveMarks, receiveAfter}
+use Rattle.standard.specs.declared.Law.{Law}
+use Rattle.standard.specs.declared.LineState.{LineState}
+use Rattle.standard.specs.declared.Record.{Record}
+use Rattle.codec.specs.Buffers.{bitsOver}
+
+-- the data bits ds sent from the state st, into the octets os₀
+pub record Sending (r : Record) (l : Law) (N : ℕ) (st : LineState) (ds : List Bool) (os₀ : List ℕ) (n : ℕ) (state : LineState) (os : List ℕ) : Type 0 where
+  pub done : n ≤ N
+  pub low : state .history < 2 ^ 23
+  pub left : state ≡ sendAfter r n st ds
+  pub long : length os ≡ length os₀
+  pub octets : os ≡ sendFrames r l n st ds ++ drop (6 * n) os₀
+
+-- the octets os received from the state st, into the data bytes bs₀ and the marks ms₀
+pub record Receiving (r : Record) (l : Law) (N : ℕ) (st : LineState) (os bs₀ ms₀ : List ℕ) (n : ℕ) (state : LineState) (bs ms : List ℕ) : Type 0 where
+  pub done : n ≤ N
+  pub low : state .history < 2 ^ 23
+  pub left : state ≡ receiveAfter r l n st os
+  pub longBits : length bs ≡ length bs₀
+  pub bits : bs ≡ bitsOver (dataBits r n) (nth (receiveFrames r l n st os)) bs₀
+  pub longMarks : length ms ≡ length ms₀
+  pub marks : ms ≡ receiveMarks r l n os ++ drop n ms₀

@@ -1,0 +1,222 @@
+// The frame sender and the frame receiver.
+use standard::FramesDone;
+use standard::Law;
+use standard::LineState;
+use standard::Outcome;
+use standard::Record;
+use standard::Refusal;
+ghost use mathlib.Core.Path.{_≡_};
+ghost use lib.ListN.{length, take};
+ghost use Prim.Native.Nat.{_*_, _≤_};
+ghost use mathlib.Core.Bool.{_||_};
+ghost use mathlib.Core.List.{_++_};
+ghost use lib.Dec.{ltb};
+ghost use Rattle.standard.specs.First.{first};
+ghost use Rattle.standard.specs.Bits.{bitsIn, bytesOf, bytesFor, nth};
+ghost use Rattle.standard.specs.Record.{D};
+ghost use Rattle.standard.specs.Frame.{dataBits, sendFrames, sendAfter, receiveFrames, receiveMarks, receiveAfter};
+ghost use Rattle.standard.specs.Refusals.{outcomeNumber, recordTests, lineTests, bufferTests, frameTests};
+ghost use Rattle.standard.specs.Calls.{over, sendCall, sendRefusal, sendLeft, sendOctets, receiveCall, receiveRefusal, receiveLeft, receiveBytes, receiveMarked};
+ghost use Rattle.codec.specs.Allowed.{Allowed};
+
+// D: the bits of a data frame.
+fn frame_width(r: Record) -> usize
+    ensures { λ d. ⌜ d ≡ D r ⌝ }
+{
+    r.drn as usize + 20
+}
+
+// The bytes that the data bits of so many frames need.
+fn data_bytes(width: usize, frames: usize) -> usize
+    requires { ⌜ (width ≤ 48) × (frames ≤ 1024) ⌝ }
+    ensures { λ n. ⌜ n ≡ bytesFor (frames * width) ⌝ }
+{
+    (frames * width + 7) / 8
+}
+
+// Refusals 13 to 15.
+fn line_fault(r: Record, state: LineState, frames: usize) -> Outcome
+    ensures { λ x. ⌜ outcomeNumber x ≡ first (lineTests r state frames) ⌝ }
+{
+    if (1 <= frames) & (r.drn == 0) {
+        return Outcome::Refused(Refusal::FramesAtCleardown);
+    }
+    if 0x80_0000 <= state.history {
+        return Outcome::Refused(Refusal::HistoryTooLarge);
+    }
+    if 1024 < frames {
+        return Outcome::Refused(Refusal::TooManyFrames);
+    }
+    Outcome::Done
+}
+
+// Refusals 16 and 17: whether the buffer to be read, and one to be written, is shorter than needed.
+fn buffer_fault(input: bool, output: bool) -> Outcome
+    ensures { λ x. ⌜ outcomeNumber x ≡ first (bufferTests input output) ⌝ }
+{
+    if input {
+        return Outcome::Refused(Refusal::InputTooShort);
+    }
+    if output {
+        return Outcome::Refused(Refusal::OutputTooShort);
+    }
+    Outcome::Done
+}
+
+// Refusals 4 and 9 to 15.
+fn call_fault(r: Record, state: LineState, frames: usize) -> Outcome
+    ensures { λ x. ⌜ outcomeNumber x ≡ first (recordTests r ++ lineTests r state frames) ⌝ }
+{
+    let fault = constellation::record_fault(r);
+    if let Outcome::Refused(_) = fault {
+        return fault;
+    }
+    line_fault(r, state, frames)
+}
+
+// The first refusal of a call of the sender that lends so many bytes of data and octets of line.
+fn send_fault(r: Record, state: LineState, frames: usize, bytes: usize, octets: usize) -> Outcome
+    ensures { λ x. ⌜ outcomeNumber x ≡ first (frameTests r state frames (ltb bytes (bytesFor (dataBits r frames))) (ltb octets (6 * frames))) ⌝ }
+{
+    let fault = call_fault(r, state, frames);
+    if let Outcome::Refused(_) = fault {
+        return fault;
+    }
+    let needed = data_bytes(frame_width(r), frames);
+    buffer_fault(bytes < needed, octets < 6 * frames)
+}
+
+// The first refusal of a call of the receiver that lends so many octets of line, bytes of data and marks.
+fn receive_fault(
+    r: Record,
+    state: LineState,
+    frames: usize,
+    octets: usize,
+    bytes: usize,
+    marks: usize,
+) -> Outcome
+    ensures { λ x. ⌜ outcomeNumber x ≡ first (frameTests r state frames (ltb octets (6 * frames)) (ltb bytes (bytesFor (dataBits r frames)) || ltb marks frames)) ⌝ }
+{
+    let fault = call_fault(r, state, frames);
+    if let Outcome::Refused(_) = fault {
+        return fault;
+    }
+    let needed = data_bytes(frame_width(r), frames);
+    buffer_fault(octets < 6 * frames, (bytes < needed) | (marks < frames))
+}
+
+// Sends so many frames: frame n takes its data bits from bit n * D on and writes the six octets from place 6 * n on.
+fn send_frames(
+    r: Record,
+    law: Law,
+    frames: usize,
+    state: LineState,
+    bytes: &[u8],
+    octets: &mut [u8],
+) -> LineState
+    requires { ⌜ Allowed r state frames × (6 * frames ≤ length (now octets)) ⌝ }
+    ensures { λ x. ⌜ (x ≡ sendAfter r frames state (bitsIn (dataBits r frames) (now (bytes .entry))))
+        × (now (octets .exit) ≡ over (sendFrames r law frames state (bitsIn (dataBits r frames) (now (bytes .entry)))) (now (octets .entry))) ⌝ }
+{
+    let sizes = constellation::sizes_of(r);
+    let width = frame_width(r);
+    let mut left = state;
+    let mut n = 0;
+    while n < frames {
+        let bits = bits::field_at(bytes, n * width, width);
+        let at = 6 * n;
+        let end = at + 6;
+        left = frame::send_frame(r, law, sizes, left, bits, &mut octets[at..end]);
+        n += 1;
+    }
+    left
+}
+
+// Receives so many frames: frame n is the six octets from place 6 * n on, and gives mark n and the data bits from bit n * D on.
+fn receive_frames(
+    r: Record,
+    law: Law,
+    frames: usize,
+    state: LineState,
+    octets: &[u8],
+    bytes: &mut [u8],
+    marks: &mut [u8],
+) -> LineState
+    requires { ⌜ Allowed r state frames × (6 * frames ≤ length (now octets)) × (bytesFor (dataBits r frames) ≤ length (now bytes)) × (frames ≤ length (now marks)) ⌝ }
+    ensures { λ x. ⌜ (x ≡ receiveAfter r law frames state (take (6 * frames) (now (octets .entry))))
+        × (now (bytes .exit) ≡ over (bytesOf (bytesFor (dataBits r frames)) (nth (receiveFrames r law frames state (take (6 * frames) (now (octets .entry)))))) (now (bytes .entry)))
+        × (now (marks .exit) ≡ over (receiveMarks r law frames (take (6 * frames) (now (octets .entry)))) (now (marks .entry))) ⌝ }
+{
+    let sizes = constellation::sizes_of(r);
+    let width = frame_width(r);
+    let mut left = state;
+    let mut n = 0;
+    while n < frames {
+        let at = 6 * n;
+        let end = at + 6;
+        let got = frame::receive_frame(r, law, sizes, left, &octets[at..end]);
+        bits::put_field(bytes, n * width, width, got.bits);
+        marks[n] = got.mark;
+        left = got.state;
+        n += 1;
+    }
+    let used = frames * width;
+    bits::put_field(bytes, used, 8 * data_bytes(width, frames) - used, 0);
+    left
+}
+
+// The entry: turns frames * D data bits into 6 * frames octets.
+pub fn send(
+    r: Record,
+    law: Law,
+    frames: usize,
+    state: LineState,
+    bytes: &[u8],
+    octets: &mut [u8],
+) -> FramesDone
+    ensures { λ x. ⌜ (outcomeNumber (x .outcome) ≡ sendRefusal state (sendCall r law frames (now (bytes .entry)) (now (octets .entry))))
+        × (x .state ≡ sendLeft state (sendCall r law frames (now (bytes .entry)) (now (octets .entry))))
+        × (now (octets .exit) ≡ sendOctets state (sendCall r law frames (now (bytes .entry)) (now (octets .entry)))) ⌝ }
+{
+    let fault = send_fault(r, state, frames, bytes.len(), octets.len());
+    if let Outcome::Refused(_) = fault {
+        return FramesDone {
+            outcome: fault,
+            state: state,
+        };
+    }
+    let left = send_frames(r, law, frames, state, bytes, octets);
+    FramesDone {
+        outcome: Outcome::Done,
+        state: left,
+    }
+}
+
+// The entry: turns 6 * frames octets into frames * D data bits and a mark for each frame.
+pub fn receive(
+    r: Record,
+    law: Law,
+    frames: usize,
+    state: LineState,
+    octets: &[u8],
+    bytes: &mut [u8],
+    marks: &mut [u8],
+) -> FramesDone
+    ensures { λ x. ⌜ (outcomeNumber (x .outcome) ≡ receiveRefusal state (receiveCall r law frames (now (octets .entry)) (now (bytes .entry)) (now (marks .entry))))
+        × (x .state ≡ receiveLeft state (receiveCall r law frames (now (octets .entry)) (now (bytes .entry)) (now (marks .entry))))
+        × (now (bytes .exit) ≡ receiveBytes state (receiveCall r law frames (now (octets .entry)) (now (bytes .entry)) (now (marks .entry))))
+        × (now (marks .exit) ≡ receiveMarked state (receiveCall r law frames (now (octets .entry)) (now (bytes .entry)) (now (marks .entry)))) ⌝ }
+{
+    let fault = receive_fault(r, state, frames, octets.len(), bytes.len(), marks.len());
+    if let Outcome::Refused(_) = fault {
+        return FramesDone {
+            outcome: fault,
+            state: state,
+        };
+    }
+    let left = receive_frames(r, law, frames, state, octets, bytes, marks);
+    FramesDone {
+        outcome: Outcome::Done,
+        state: left,
+    }
+}

@@ -1,0 +1,5 @@
+pub mod Passing
+pub mod Turns
+pub mod Division
+pub mod Sending
+pub mod Receiving
