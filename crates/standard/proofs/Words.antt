@@ -6,6 +6,7 @@ use mathlib.Core.List.{List, [], _∷_, _++_}
 use native.Mathlib.Nat.{not-suc-le-zero, div-one, zero-div, pow-suc, pow-succ', one-mul, mul-comm, mul-assoc}
 use native.Mathlib.Numerals.{add-one, one-add}
 use native.Mathlib.Omega.{arith}
+use borrow.Author.Tests.{ne-eqb}
 use lib.Bits.{bitAnd, bitOr, and-mask, or-shifted-r}
 use lib.Dec.{eqb}
 use lib.ListN.{length, getD, take, drop, replicate, length-append}
@@ -33,6 +34,10 @@ odd-test n = go (n % 2) (omega arith)
     go zero h = refl
     go (suc zero) h = refl
     go (suc (suc x)) h = absurd (omega arith)
+
+pub positive-test : (n : ℕ) → not (eqb n 0) ≡ positive n
+positive-test zero = refl
+positive-test (suc n) = ap not (ne-eqb (suc n) 0 (omega arith))
 
 pub low-test : (n : ℕ) → eqb (bitAnd n 1) 1 ≡ odd n
 low-test n = ap (λ (x : ℕ). eqb x 1) (and-mask n 1) ∙ odd-test n

@@ -1,0 +1,128 @@
+-- Laws of the CRC, of fields and of tests as the reader's code goes through them. Assumes nothing.
+use mathlib.Core.Path.{_≡_, refl, sym, ap, ap₂, _∙_}
+use Prim.Native.Nat.{ℕ, zero, suc, _+_, _*_, _/_, _%_, _^_, _≤_, _<_}
+use mathlib.Core.Bool.{Bool, cond, not, _||_, Bool·beq}
+use mathlib.Core.List.{List, _++_}
+use native.Mathlib.Nat.{add-zero, zero-add, add-suc, suc-add, mul-assoc, pow-suc}
+use native.Mathlib.Omega.{arith}
+use borrow.Author.Tests.{le-ltb, eq-eqb, ne-eqb}
+use lib.Dec.{eqb}
+use Rattle.standard.specs.Bits.{_⊕_, odd, bitAt, field}
+use Rattle.standard.specs.First.{first}
+use Rattle.standard.specs.Lists.{listFrom, any, largest}
+use Rattle.standard.specs.Record.{indexOf, topIndex, noRecord}
+use Rattle.standard.specs.Crc.{crcStep, crcBelow}
+use Rattle.standard.specs.Cp.{runPlace, indexIn, maskBitIn, halfIn, recordIn}
+use Rattle.standard.specs.Refusals.{outcomeNumber, readTests}
+use Rattle.standard.specs.Calls.{readRefusal, readRecord}
+use Rattle.standard.specs.declared.Outcome.{Outcome}
+use Rattle.standard.specs.declared.Outcome.the-variants.{Done, Refused}
+use Rattle.standard.specs.declared.Record.{Record}
+use Rattle.standard.specs.declared.Refusal.{Refusal}
+use Rattle.standard.proofs.Bits.{field-ext}
+use Rattle.standard.proofs.Crc.{crcBelow-next}
+use Rattle.standard.proofs.Lists.{any-next, getD-list, largest-ext}
+use Rattle.standard.proofs.Words.{odd-test}
+use Rattle.standard.proofs.Words.{xor-bits}
+use Rattle.standard.proofs.Stages.{refused-positive, stage-hit, stage-past}
+use Rattle.standard.specs.Calls.{readCall}
+use Rattle.cp.specs.Stages.{shapeTests, sequenceTests, contentTests}
+use Rattle.cp.specs.Reading.{headIn}
+
+-- ---- the CRC
+
+-- the code's comparison of a bit with the register's lowest bit
+pub differ-test : (x : ℕ) (b : Bool) → not (Bool·beq (eqb (x % 2) 1) b) ≡ odd x ⊕ b
+differ-test x b = ap (λ (a : Bool). not (Bool·beq a b)) (odd-test x) ∙ xor-bits (odd x) b
+
+-- one bit more, from bit 18 on
+pub crc-turn : (f : ℕ → Bool) (n : ℕ) → 18 ≤ n → crcBelow f (n + 1) ≡ cond (eqb (n % 17) 0) (crcBelow f n) (crcStep (crcBelow f n) (f n))
+crc-turn f n h = crcBelow-next f n ∙ ap (λ (b : Bool). cond (b || eqb (n % 17) 0) (crcBelow f n) (crcStep (crcBelow f n) (f n))) (le-ltb n 18 h)
+
+-- ---- fields
+
+-- a field in two parts
+pub field-split : (f : ℕ → Bool) (p a b : ℕ) → field f p (a + b) ≡ field f p a + 2 ^ a * field f (p + a) b
+unfolding field
+field-split f p zero b =
+    let e : 0 + 2 ^ 0 * field f (p + 0) b ≡ field f (p + 0) b = omega arith in
+    ap (field f p) (zero-add b) ∙ ap (λ (q : ℕ). field f q b) (sym (add-zero p)) ∙ sym e
+field-split f p (suc a) b =
+    let e : 2 ^ suc a * field f (p + suc a) b ≡ 2 * (2 ^ a * field f (suc p + a) b)
+    = ap₂ (λ (x q : ℕ). x * field f q b) (pow-suc 2 a) (add-suc p a ∙ sym (suc-add p a)) ∙ omega (arith, mul-assoc (2 ^ a) 2 (field f (suc p + a) b), mul-assoc 2 (2 ^ a) (field f (suc p + a) b)) in
+    ap (field f p) (suc-add a b) ∙ omega (arith, field-split f (suc p) a b, e)
+
+-- the run that begins at Ucode p of a mask
+run-bits : (f : ℕ → Bool) (m p c : ℕ) → p ≡ 16 * c → field (maskBitIn f m) p 16 ≡ field f (runPlace m c) 16
+unfolding maskBitIn
+run-bits f m p c e =
+    field-ext (maskBitIn f m) f p (runPlace m c) 16
+    (λ i l.
+    let d : (p + i) / 16 ≡ c = omega arith in
+    let k : (p + i) % 16 ≡ i = omega arith in
+    ap₂ (λ (x y : ℕ). f (runPlace m x + y)) d k)
+
+-- a half has four runs
+pub half-runs : (f : ℕ → Bool) (m q : ℕ)
+    → field (maskBitIn f m) (64 * q) 64
+    ≡ field f (runPlace m (4 * q)) 16 + 65536 * field f (runPlace m (4 * q + 1)) 16
+    + 4294967296 * (field f (runPlace m (4 * q + 2)) 16 + 65536 * field f (runPlace m (4 * q + 3)) 16)
+half-runs f m q =
+    let b = maskBitIn f m in
+    omega (
+      arith,
+      field-split b (64 * q) 16 48,
+      field-split b (64 * q + 16) 16 32,
+      field-split b (64 * q + 16 + 16) 16 16,
+      run-bits f m (64 * q) (4 * q) (omega arith),
+      run-bits f m (64 * q + 16) (4 * q + 1) (omega arith),
+      run-bits f m (64 * q + 16 + 16) (4 * q + 2) (omega arith),
+      run-bits f m (64 * q + 16 + 16 + 16) (4 * q + 3) (omega arith),
+    )
+
+-- ---- tests
+
+pub any-up : (f : ℕ → Bool) (n : ℕ) → any f 0 (n + 1) ≡ any f 0 n || f n
+any-up f n = any-next f 0 n ∙ ap (λ (k : ℕ). any f 0 n || f k) (zero-add n)
+
+-- ---- the record
+
+top-head : (f : ℕ → Bool) → topIndex (headIn f) ≡ largest (indexIn f) 6
+unfolding topIndex headIn
+top-head f = largest-ext (indexOf (headIn f)) (indexIn f) 6 (λ k h. getD-list (indexIn f) 0 6 k h)
+
+-- the head and the masks up to its largest index
+pub record-read : (f : ℕ → Bool) (head : Record) (g : ℕ) (mask : List ℕ) → head ≡ headIn f → g ≡ topIndex head → mask ≡ listFrom (halfIn f g) 0 12
+    → record { granted = head .granted; drn = head .drn; acknowledge = head .acknowledge; index = head .index; mask = mask } ≡ recordIn f
+unfolding headIn recordIn
+record-read f head g mask h e m =
+    let g-is : g ≡ largest (indexIn f) 6 = e ∙ ap topIndex h ∙ top-head f in
+    rw (m, g-is, h)
+
+-- ---- the answer
+
+-- refusals 1 to 3, then 4 to 11
+pub read-stages : (s : List ℕ) (n : ℕ) → readTests s n ≡ shapeTests s n ++ contentTests (bitAt s) n (recordIn (bitAt s))
+unfolding readTests shapeTests contentTests sequenceTests
+read-stages s n = refl
+
+module _ (s : List ℕ) (n : ℕ) where
+  -- a refusal leaves no record
+  pub read-refused : (o : Outcome) (x : Refusal) → o ≡ Refused x → outcomeNumber o ≡ readRefusal (readCall s n) → readRecord (readCall s n) ≡ noRecord
+  unfolding readRecord
+  read-refused o x q e =
+      let p : 0 < readRefusal (readCall s n) = omega (arith, refused-positive x, ap outcomeNumber q) in
+      rw (ne-eqb (readRefusal (readCall s n)) 0 (λ (z : readRefusal (readCall s n) ≡ 0). omega arith))
+
+  pub read-accepted : 0 ≡ readRefusal (readCall s n) → readRecord (readCall s n) ≡ recordIn (bitAt s)
+  unfolding readRecord
+  read-accepted e = rw (eq-eqb (readRefusal (readCall s n)) 0 (sym e))
+
+  -- the refusal, from either stage
+  pub refused-shape : (o : Outcome) (x : Refusal) → o ≡ Refused x → outcomeNumber o ≡ first (shapeTests s n) → outcomeNumber o ≡ readRefusal (readCall s n)
+  unfolding readRefusal
+  refused-shape o x q e = rw (read-stages s n) (stage-hit o x (shapeTests s n) (contentTests (bitAt s) n (recordIn (bitAt s))) q e)
+
+  pub past-shape : (o : Outcome) → o ≡ Done → outcomeNumber o ≡ first (shapeTests s n) → (m : ℕ) → m ≡ first (contentTests (bitAt s) n (recordIn (bitAt s))) → m ≡ readRefusal (readCall s n)
+  unfolding readRefusal shapeTests
+  past-shape o q e m k = rw (read-stages s n) (stage-past o (shapeTests s n) (contentTests (bitAt s) n (recordIn (bitAt s))) tt q e m k)

@@ -1,0 +1,54 @@
+-- Turn h fills in half h. Assumes nothing.
+use mathlib.Core.Path.{_≡_, refl}
+use Prim.Native.Nat.{_≤_, _-_}
+use Rattle.standard.specs.Bits.{bitAt}
+use Rattle.standard.specs.Cp.{halfIn}
+use Rattle.standard.proofs.Filling.{Filled, filled-none, filled-more, filled-all}
+use native.Mathlib.Omega.{arith}
+use Rattle.cp.proofs.masks_in.Statement.{statement}
+use Rattle.cp.proofs.masks_in.Tie as tie
+
+abbrev Inv-loop : tie.InvT-loop
+Inv-loop cp g mask₀ h₀ mask h = (h ≤ 12) × Filled (halfIn (bitAt cp) g) 12 mask h
+
+abbrev μ-loop : tie.MeasureT-loop
+μ-loop cp g mask₀ h₀ mask h = 12 - h
+
+loop-holds : tie.Need-loop-holds Inv-loop μ-loop
+loop-holds c = (omega arith, filled-none _ 12 _ refl)
+
+half-in-requires : tie.Need-half-in-requires Inv-loop μ-loop
+half-in-requires c κs = omega arith
+
+mul-mask : tie.Need-mul-mask Inv-loop μ-loop
+mul-mask c = omega arith
+
+array-write-mask : tie.Need-array-write-mask Inv-loop μ-loop
+array-write-mask c = omega arith
+
+add-h : tie.Need-add-h Inv-loop μ-loop
+add-h c = omega arith
+
+loop-less : tie.Need-loop-less Inv-loop μ-loop
+loop-less c = omega arith
+
+loop-again : tie.Need-loop-again Inv-loop μ-loop
+loop-again c = (omega arith, filled-more _ (c .before .before .loop .inv .1) (omega arith) (c .half-in .ensures))
+
+returns : tie.Need-returns Inv-loop μ-loop
+returns c = let e : c .before .loop .h ≡ 12 = omega arith in filled-all (rw e at (c .before .loop .inv .1))
+
+pub masks-in-spec : {M : Type 1} → statement M
+masks-in-spec =
+    tie.close
+    (tie.spec
+    Inv-loop
+    μ-loop
+    loop-holds
+    half-in-requires
+    mul-mask
+    array-write-mask
+    add-h
+    loop-less
+    loop-again
+    returns)

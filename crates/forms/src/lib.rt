@@ -1,0 +1,88 @@
+// A record in bytes, for interfaces that pass bytes alone.
+use standard::Record;
+ghost use mathlib.Core.Path.{_≡_};
+ghost use Prim.Native.Nat.{_<_, _≤_};
+ghost use lib.ListN.{length};
+ghost use Rattle.standard.specs.Lists.{listFrom};
+ghost use Rattle.standard.specs.Calls.{over};
+ghost use Rattle.forms.specs.RecordBytes.{halfByte, recordByte, recordBytes, indexAt, halfAt, recordAt};
+
+// The six indices, from byte 3 on.
+fn indices_at(bytes: &[u8]) -> [u8; 6]
+    requires { ⌜ 9 ≤ length (now bytes) ⌝ }
+    ensures { λ x. ⌜ x ≡ listFrom (indexAt (now (bytes .entry))) 0 6 ⌝ }
+{
+    [bytes[3], bytes[4], bytes[5], bytes[6], bytes[7], bytes[8]]
+}
+
+// The twelve halves of the masks, from byte 9 on.
+fn masks_at(bytes: &[u8]) -> [u64; 12]
+    ensures { λ x. ⌜ x ≡ listFrom (halfAt (now (bytes .entry))) 0 12 ⌝ }
+{
+    let mut mask = [0u64; 12];
+    let mut h = 0;
+    while h < 12 {
+        mask[h] = bits::field_at(bytes, 72 + 64 * h, 64);
+        h += 1;
+    }
+    mask
+}
+
+// The record in the first 105 bytes.
+pub fn record_from(bytes: &[u8]) -> Record
+    requires { ⌜ 105 ≤ length (now bytes) ⌝ }
+    ensures { λ r. ⌜ r ≡ recordAt (now (bytes .entry)) ⌝ }
+{
+    let index = indices_at(bytes);
+    let mask = masks_at(bytes);
+    Record {
+        granted: bytes[0] != 0,
+        drn: bytes[1],
+        acknowledge: bytes[2] != 0,
+        index,
+        mask,
+    }
+}
+
+// Byte k of the mask halves.
+fn half_byte(mask: [u64; 12], k: usize) -> u8
+    requires { ⌜ k < 96 ⌝ }
+    ensures { λ x. ⌜ x ≡ halfByte mask k ⌝ }
+{
+    let half = mask[k / 8];
+    ((half >> (8 * (k % 8))) % 256) as u8
+}
+
+// Byte k of a record.
+fn byte_of(r: Record, k: usize) -> u8
+    requires { ⌜ k < 105 ⌝ }
+    ensures { λ x. ⌜ x ≡ recordByte r k ⌝ }
+{
+    if k < 1 {
+        return r.granted as u8;
+    }
+    if k < 2 {
+        return r.drn;
+    }
+    if k < 3 {
+        return r.acknowledge as u8;
+    }
+    if k < 9 {
+        let index = r.index;
+        return index[k - 3];
+    }
+    let mask = r.mask;
+    half_byte(mask, k - 9)
+}
+
+// Puts a record into the first 105 bytes; the others stay.
+pub fn record_into(r: Record, bytes: &mut [u8])
+    requires { ⌜ 105 ≤ length (now bytes) ⌝ }
+    ensures { λ x. ⌜ now (bytes .exit) ≡ over (recordBytes r) (now (bytes .entry)) ⌝ }
+{
+    let mut k = 0;
+    while k < 105 {
+        bytes[k] = byte_of(r, k);
+        k += 1;
+    }
+}
