@@ -123,3 +123,29 @@ pub fn to_hex(bytes: &[u8], text: &mut [u8]) -> usize
     }
     count
 }
+
+// Reads a line of hexadecimal text, by way of `text`, and puts its bytes into `bytes`; the length is theirs.
+pub fn read_bytes(text: &mut [u8], bytes: &mut [u8]) -> Line
+    requires { ⌜ length (now text) ≤ 2 * length (now bytes) ⌝ }
+    ensures { λ l. ⌜ l .length ≤ length (now (bytes .exit)) ⌝ }
+{
+    let line = read_line(text);
+    let n = line.length;
+    let count = from_hex(&text[..n], bytes);
+    Line {
+        length: count,
+        found: line.found,
+    }
+}
+
+// Writes bytes as a line of hexadecimal text, by way of `text`, and returns whether it could.
+pub fn write_bytes(bytes: &[u8], text: &mut [u8]) -> bool
+    requires { ⌜ 2 * length (now bytes) ≤ length (now text) ⌝ }
+    ensures { λ x. ⌜ now (text .exit) ≡ over (listFrom (charOf (now (bytes .entry))) 0 (2 * length (now (bytes .entry)))) (now (text .entry)) ⌝ }
+{
+    let end = to_hex(bytes, text);
+    if io::write_all(1, &text[..end]) {
+        return io::write_all(1, &[b'\n']);
+    }
+    false
+}

@@ -75,7 +75,7 @@ put-field-requires c κs =
     let b = i .before .before .before .before .before .before .before in (
       omega (arith, bits-in i .0),
       omega (arith, bits-in i .1),
-      bits-room (b .args .r) (i .before .loop .n) (b .args .frames) (i .before .before .frame-width .result) _ (omega arith) (i .before .before .frame-width .ensures) (omega (arith, i .before .loop .inv .0 .longBits)),
+      omega (arith, bits-room (b .args .r) (i .before .loop .n) (b .args .frames) (i .before .before .frame-width .result) (length (b .args .bytes .now)) (omega arith) (i .before .before .frame-width .ensures) (b .pre .2), i .before .loop .inv .0 .longBits),
     )
 
 slice-write-marks : tie.Need-slice-write-marks Inv-loop μ-loop

@@ -1,0 +1,101 @@
+// Runs the calls on standard input through the CP reader and writer, and writes an answer line for each. A line is lowercase hexadecimal:
+// `00`, the bit count in eight bytes and the CP, which `refusal, record` answers; or `01`, a record and a buffer, which
+// `refusal, bit count in two bytes, buffer afterwards` answers. Numbers have their low byte first, and a record is 105 bytes.
+ghost use mathlib.Core.Path.{_≡_};
+ghost use Prim.Native.Nat.{_+_, _<_, _≤_};
+ghost use lib.ListN.{length, set};
+
+// Puts one byte.
+fn put(reply: &mut [u8], at: usize, byte: u8)
+    requires { ⌜ at < length (now reply) ⌝ }
+    ensures { λ x. ⌜ now (reply .exit) ≡ set (now (reply .entry)) at byte ⌝ }
+{
+    reply[at] = byte;
+}
+
+// Answers a call of the reader: bit count and CP.
+fn answer_read(call: &[u8], reply: &mut [u8]) -> usize
+    requires { ⌜ (8 ≤ length (now call)) × (106 ≤ length (now reply)) ⌝ }
+    ensures { λ n. ⌜ n ≡ 106 ⌝ }
+{
+    let read = cp::read_cp(&call[8..], bits::field_at(call, 0, 64) as usize);
+    let outcome = read.outcome;
+    let r = read.record;
+    put(reply, 0, answer::number_of(outcome));
+    forms::record_into(r, &mut reply[1..]);
+    106
+}
+
+// Copies bytes, and returns how many they are.
+fn copy(from: &[u8], into: &mut [u8]) -> usize
+    requires { ⌜ length (now from) ≤ length (now into) ⌝ }
+    ensures { λ n. ⌜ n ≡ length (now (from .entry)) ⌝ }
+{
+    let mut i = 0;
+    while i < from.len() {
+        into[i] = from[i];
+        i += 1;
+    }
+    i
+}
+
+// Answers a call of the writer: record and buffer.
+fn answer_write(call: &[u8], reply: &mut [u8]) -> usize
+    requires { ⌜ (105 ≤ length (now call)) × (length (now call) ≤ length (now reply)) × (3 ≤ length (now reply)) ⌝ }
+    ensures { λ n. ⌜ n ≤ length (now (reply .entry)) ⌝ }
+{
+    let end = 3 + copy(&call[105..], &mut reply[3..]);
+    let written = cp::write_cp(forms::record_from(call), &mut reply[3..end]);
+    let outcome = written.outcome;
+    put(reply, 0, answer::number_of(outcome));
+    put(reply, 1, (written.bit_count % 256) as u8);
+    put(reply, 2, (written.bit_count / 256 % 256) as u8);
+    end
+}
+
+// Answers a call of either kind; nothing where the call is too short.
+fn answer_call(call: &[u8], reply: &mut [u8]) -> usize
+    requires { ⌜ (106 ≤ length (now reply)) × (length (now call) ≤ length (now reply)) ⌝ }
+    ensures { λ n. ⌜ n ≤ length (now (reply .entry)) ⌝ }
+{
+    if call.len() < 9 {
+        return 0;
+    }
+    if call[0] == 0 {
+        return answer_read(&call[1..], reply);
+    }
+    if call.len() < 106 {
+        return 0;
+    }
+    answer_write(&call[1..], reply)
+}
+
+// Answers a call with a line, and returns whether that was written.
+fn answer_with_line(call: &[u8]) -> bool
+    requires { ⌜ length (now call) ≤ 512 ⌝ }
+{
+    let mut text = [0u8; 1024];
+    let mut reply = [0u8; 512];
+    let made = answer_call(call, &mut reply);
+    lines::write_bytes(&reply[..made], &mut text)
+}
+
+// Answers the next line, and returns whether there was one.
+fn answer_next() -> bool {
+    let mut text = [0u8; 1024];
+    let mut call = [0u8; 512];
+    let line = lines::read_bytes(&mut text, &mut call);
+    if !line.found {
+        return false;
+    }
+    let n = line.length;
+    answer_with_line(&call[..n])
+}
+
+// Answers line after line. A proved loop has to end, so this one counts down from a number that no run uses up.
+fn main() {
+    let mut turns = u64::MAX;
+    while turns > 0 && answer_next() {
+        turns -= 1;
+    }
+}
