@@ -4,14 +4,12 @@ use io::print_hex;
 use io::write_all;
 use standard::Law;
 
-// A linear value, which is below 2 ^ 15 on either side of 0.
-fn print_linear(value: i32) {
+// A signed number.
+fn print_signed(value: i32) {
     if value < 0 {
         write_all(1, b"-");
-        print_decimal(1, (0 - value as i64) as u64);
-    } else {
-        print_decimal(1, value as u64);
     }
+    print_decimal(1, signed::magnitude(value));
 }
 
 // The line of a Ucode.
@@ -27,7 +25,7 @@ fn print_row(law: Law, name: &[u8], sign: bool, ucode: u8) {
     write_all(1, b" ");
     print_hex(1, octets[0] as u64, 2);
     write_all(1, b" ");
-    print_linear(samples[0]);
+    print_signed(samples[0]);
     write_all(1, b"\n");
 }
 

@@ -1,0 +1,266 @@
+// Runs the calls on standard input through the frame sender, the frame receiver and the linear samples, and writes an answer line for
+// each. A line is lowercase hexadecimal; numbers have their low byte first; a record is 105 bytes, a law 1 (0 is µ-law), the frames 8,
+// a state 5 (history, last sign), a length 2.
+// `02`, record, law, frames, state, length of the octet buffer, data: answered by refusal, state, octet buffer afterwards.
+// `03`, record, law, frames, state, lengths of the bits buffer and the marks buffer, octets: by refusal, state, both buffers afterwards.
+// `04`, law, length of the samples buffer, octets: by refusal and samples, 4 bytes each in two's complement.
+use standard::FramesDone;
+use standard::Law;
+use standard::LineState;
+use standard::Record;
+ghost use mathlib.Core.Path.{_≡_};
+ghost use Prim.Native.Nat.{_+_, _*_, _%_, _<_, _≤_};
+ghost use lib.ListN.{length};
+
+// What calls of the sender and of the receiver have in common.
+struct Setup {
+    cp: Record,
+    law: Law,
+    frames: usize,
+    state: LineState,
+}
+
+// The law of a number.
+fn law_of(number: u8) -> Law {
+    if number == 0 {
+        return Law::Mu;
+    }
+    Law::A
+}
+
+// The state in the first five bytes.
+fn state_at(bytes: &[u8]) -> LineState
+    requires { ⌜ 5 ≤ length (now bytes) ⌝ }
+{
+    LineState {
+        history: bits::field_at(bytes, 0, 32) as u32,
+        sign: bytes[4] != 0,
+    }
+}
+
+// The record, the law, the frames and the state of a call.
+fn setup_at(call: &[u8]) -> Setup
+    requires { ⌜ 122 ≤ length (now call) ⌝ }
+{
+    let cp = forms::record_from(&call[1..]);
+    let law = law_of(call[106]);
+    let frames = bits::field_at(call, 856, 64) as usize;
+    let state = state_at(&call[115..]);
+    Setup {
+        cp,
+        law,
+        frames,
+        state,
+    }
+}
+
+// The number of two bytes.
+fn two(low: u8, high: u8) -> usize
+    ensures { λ n. ⌜ n < 65536 ⌝ }
+{
+    low as usize + 256 * (high as usize)
+}
+
+// Fills a buffer: byte i is (first + step * i) mod 256.
+fn fill(buffer: &mut [u8], first: usize, step: usize)
+    requires { ⌜ (first < 256) × (step < 256) ⌝ }
+{
+    let mut value = first;
+    let mut i = 0;
+    while i < buffer.len() {
+        buffer[i] = value as u8;
+        value = (value + step) % 256;
+        i += 1;
+    }
+}
+
+// Puts the refusal and the state left.
+fn put_done(done: FramesDone, reply: &mut [u8])
+    requires { ⌜ 6 ≤ length (now reply) ⌝ }
+{
+    let outcome = done.outcome;
+    let state = done.state;
+    bits::put_field(reply, 0, 8, answer::number_of(outcome) as u64);
+    bits::put_field(reply, 8, 32, state.history as u64);
+    bits::put_field(reply, 40, 8, state.sign as u64);
+}
+
+// Sends into a buffer that is filled first.
+fn send_into(setup: Setup, bytes: &[u8], octets: &mut [u8]) -> FramesDone {
+    let cp = setup.cp;
+    let law = setup.law;
+    let state = setup.state;
+    fill(octets, 3, 7);
+    codec::send(cp, law, setup.frames, state, bytes, octets)
+}
+
+// Answers a call of the sender; nothing where the call is too short or the reply has no room.
+fn answer_send(call: &[u8], reply: &mut [u8]) -> usize
+    requires { ⌜ 6 ≤ length (now reply) ⌝ }
+    ensures { λ n. ⌜ n ≤ length (now (reply .entry)) ⌝ }
+{
+    if call.len() < 122 {
+        return 0;
+    }
+    let end = 6 + two(call[120], call[121]);
+    if reply.len() < end {
+        return 0;
+    }
+    let done = send_into(setup_at(call), &call[122..], &mut reply[6..end]);
+    put_done(done, reply);
+    end
+}
+
+// Copies the first `count` bytes.
+fn copy(from: &[u8], count: usize, into: &mut [u8])
+    requires { ⌜ (count ≤ length (now from)) × (count ≤ length (now into)) ⌝ }
+{
+    let mut i = 0;
+    while i < count {
+        into[i] = from[i];
+        i += 1;
+    }
+}
+
+// Receives into buffers that are filled first.
+fn receive_into(setup: Setup, octets: &[u8], bytes: &mut [u8], marks: &mut [u8]) -> FramesDone {
+    let cp = setup.cp;
+    let law = setup.law;
+    let state = setup.state;
+    fill(bytes, 1, 5);
+    fill(marks, 2, 3);
+    codec::receive(cp, law, setup.frames, state, octets, bytes, marks)
+}
+
+// Answers a call of the receiver, by way of `marks`; nothing where the call is too short or there is no room.
+fn answer_receive(call: &[u8], reply: &mut [u8], marks: &mut [u8]) -> usize
+    requires { ⌜ 6 ≤ length (now reply) ⌝ }
+    ensures { λ n. ⌜ n ≤ length (now (reply .entry)) ⌝ }
+{
+    if call.len() < 124 {
+        return 0;
+    }
+    let end = 6 + two(call[120], call[121]);
+    let count = two(call[122], call[123]);
+    if marks.len() < count {
+        return 0;
+    }
+    if reply.len() < end + count {
+        return 0;
+    }
+    let done = receive_into(
+        setup_at(call),
+        &call[124..],
+        &mut reply[6..end],
+        &mut marks[0..count],
+    );
+    put_done(done, reply);
+    copy(marks, count, &mut reply[end..]);
+    end + count
+}
+
+// Fills a buffer: sample i is 1000 * i + 7.
+fn fill_samples(samples: &mut [i32])
+    requires { ⌜ length (now samples) ≤ 65536 ⌝ }
+{
+    let mut i = 0;
+    while i < samples.len() {
+        samples[i] = (1000 * i + 7) as i32;
+        i += 1;
+    }
+}
+
+// A sample in two's complement.
+fn complement(value: i32) -> u64 {
+    if value < 0 {
+        return 0x1_0000_0000 - signed::magnitude(value);
+    }
+    signed::magnitude(value)
+}
+
+// Puts samples, four bytes each.
+fn put_samples(samples: &[i32], reply: &mut [u8])
+    requires { ⌜ (4 * length (now samples) ≤ length (now reply)) × (length (now samples) ≤ 65536) ⌝ }
+{
+    let mut i = 0;
+    while i < samples.len() {
+        bits::put_field(reply, 32 * i, 32, complement(samples[i]));
+        i += 1;
+    }
+}
+
+// Puts the refusal and the samples of octets, which go into a buffer that is filled first.
+fn linear_into(law: Law, octets: &[u8], samples: &mut [i32], reply: &mut [u8])
+    requires { ⌜ (1 + 4 * length (now samples) ≤ length (now reply)) × (length (now samples) ≤ 65536) ⌝ }
+{
+    fill_samples(samples);
+    let outcome = pcm::linear(law, octets, samples);
+    bits::put_field(reply, 0, 8, answer::number_of(outcome) as u64);
+    put_samples(samples, &mut reply[1..]);
+}
+
+// Answers a call for linear samples, by way of `samples`; nothing where there is no room.
+fn answer_linear(call: &[u8], reply: &mut [u8], samples: &mut [i32]) -> usize
+    requires { ⌜ 4 ≤ length (now call) ⌝ }
+    ensures { λ n. ⌜ n ≤ length (now (reply .entry)) ⌝ }
+{
+    let count = two(call[2], call[3]);
+    if samples.len() < count {
+        return 0;
+    }
+    if reply.len() < 1 + 4 * count {
+        return 0;
+    }
+    linear_into(law_of(call[1]), &call[4..], &mut samples[0..count], reply);
+    1 + 4 * count
+}
+
+// Answers a call of any kind, and returns the reply's length; nothing where the call is too short or of no kind.
+fn answer_call(call: &[u8], reply: &mut [u8]) -> usize
+    requires { ⌜ 6 ≤ length (now reply) ⌝ }
+    ensures { λ n. ⌜ n ≤ length (now (reply .entry)) ⌝ }
+{
+    if call.len() < 4 {
+        return 0;
+    }
+    match call[0] {
+        2 => answer_send(call, reply),
+        3 => {
+            let mut marks = [0u8; 2048];
+            answer_receive(call, reply, &mut marks)
+        }
+        4 => {
+            let mut samples = [0i32; 512];
+            answer_linear(call, reply, &mut samples)
+        }
+        _ => 0,
+    }
+}
+
+// Answers a call with a line, and returns whether that was written.
+fn answer_with_line(call: &[u8]) -> bool {
+    let mut text = [0u8; 16384];
+    let mut reply = [0u8; 8192];
+    let made = answer_call(call, &mut reply);
+    lines::write_bytes(&reply[0..made], &mut text)
+}
+
+// Answers the next line, and returns whether there was one.
+fn answer_next() -> bool {
+    let mut text = [0u8; 16384];
+    let mut call = [0u8; 8192];
+    let line = lines::read_bytes(&mut text, &mut call);
+    if !line.found {
+        return false;
+    }
+    let n = line.length;
+    answer_with_line(&call[0..n])
+}
+
+// Answers line after line. A proved loop has to end, so this one counts down from a number that no run uses up.
+fn main() {
+    let mut turns = u64::MAX;
+    while turns > 0 && answer_next() {
+        turns -= 1;
+    }
+}
