@@ -165,7 +165,7 @@ fn receive_frames(
     left
 }
 
-// The entry: turns frames * D data bits into 6 * frames octets.
+// The entry: turns frames * D data bits into 6 * frames octets. Refusals 4 and 9 to 17, the first that applies.
 pub fn send(
     r: Record,
     law: Law,
@@ -192,7 +192,7 @@ pub fn send(
     }
 }
 
-// The entry: turns 6 * frames octets into frames * D data bits and a mark for each frame.
+// The entry: turns 6 * frames octets into frames * D data bits and a mark for each frame. Refusals 4 and 9 to 17, the first that applies.
 pub fn receive(
     r: Record,
     law: Law,

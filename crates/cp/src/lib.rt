@@ -1,3 +1,4 @@
+// The CP reader and the CP writer: fields by their bit numbers in V.91, Table 4.
 use standard::CpRead;
 use standard::CpWritten;
 use standard::Outcome;
@@ -15,14 +16,11 @@ ghost use Rattle.standard.specs.Record.{topIndex, noRecord};
 ghost use Rattle.standard.specs.Crc.{crcStep, crcBelow};
 ghost use Rattle.standard.specs.Cp.{gamma, cpLength, cpByteCount, runPlace, headFields, maskFields, cpBytes, indexIn, halfIn, recordIn, crcMatches, startBitSet};
 ghost use Rattle.standard.specs.Refusals.{outcomeNumber, syncBroken, fixedBitWrong, writeTests};
-ghost use Rattle.standard.specs.Calls.{readRefusal, readRecord, writeRefusal, writeBitCount, writeBytes};
+ghost use Rattle.standard.specs.Calls.{readCall, readRefusal, readRecord, writeCall, writeRefusal, writeBitCount, writeBytes};
 ghost use Rattle.bits.specs.PutField.{putField};
-ghost use Rattle.standard.specs.Calls.{readCall, writeCall};
 ghost use Rattle.cp.specs.Stages.{shapeTests, sequenceTests, contentTests};
 ghost use Rattle.cp.specs.Reading.{headIn};
 ghost use Rattle.cp.specs.Writing.{putFields, runOf};
-
-// The CP reader and writer.
 
 // The bits of a CP whose largest index is g.
 fn cp_length(g: usize) -> usize
@@ -261,7 +259,7 @@ fn refused(outcome: Outcome) -> CpRead
     }
 }
 
-// Reads a CP.
+// The entry: reads a CP of so many bits. Refusals 1 to 11, the first that applies.
 pub fn read_cp(cp: &[u8], bit_count: usize) -> CpRead
     ensures { λ x. ⌜ (outcomeNumber (x .outcome) ≡ readRefusal (readCall (now (cp .entry)) «bit_count»)) × (x .record ≡ readRecord (readCall (now (cp .entry)) «bit_count»)) ⌝ }
 {
@@ -392,7 +390,7 @@ fn put_cp(cp: &mut [u8], r: Record)
     bits::put_field(cp, 273 + 136 * g, 16, crc);
 }
 
-// Writes a CP.
+// The entry: writes the CP of a record, and answers its bit count. Refusals 4, 9 to 12 and 17, the first that applies.
 pub fn write_cp(r: Record, cp: &mut [u8]) -> CpWritten
     ensures { λ x. ⌜ (outcomeNumber (x .outcome) ≡ writeRefusal (writeCall r (now (cp .entry)))) × (x .«bit_count» ≡ writeBitCount (writeCall r (now (cp .entry)))) × (now (cp .exit) ≡ writeBytes (writeCall r (now (cp .entry)))) ⌝ }
 {
