@@ -1,1 +1,2 @@
 pub mod RecordBytes
+pub mod StateBytes

@@ -1,4 +1,5 @@
-// A record in bytes, for interfaces that pass bytes alone.
+// A record and a line state in bytes, for interfaces that pass bytes alone.
+use standard::LineState;
 use standard::Record;
 ghost use mathlib.Core.Path.{_≡_};
 ghost use Prim.Native.Nat.{_<_, _≤_};
@@ -6,6 +7,7 @@ ghost use lib.ListN.{length};
 ghost use Rattle.standard.specs.Lists.{listFrom};
 ghost use Rattle.standard.specs.Calls.{over};
 ghost use Rattle.forms.specs.RecordBytes.{halfByte, recordByte, recordBytes, indexAt, halfAt, recordAt};
+ghost use Rattle.forms.specs.StateBytes.{stateByte, stateBytes, stateAt};
 
 // The six indices, from byte 3 on.
 fn indices_at(bytes: &[u8]) -> [u8; 6]
@@ -83,6 +85,40 @@ pub fn record_into(r: Record, bytes: &mut [u8])
     let mut k = 0;
     while k < 105 {
         bytes[k] = byte_of(r, k);
+        k += 1;
+    }
+}
+
+// The line state in the first 5 bytes.
+pub fn state_from(bytes: &[u8]) -> LineState
+    requires { ⌜ 5 ≤ length (now bytes) ⌝ }
+    ensures { λ r. ⌜ r ≡ stateAt (now (bytes .entry)) ⌝ }
+{
+    LineState {
+        history: bits::field_at(bytes, 0, 32) as u32,
+        sign: bytes[4] != 0,
+    }
+}
+
+// Byte k of a line state.
+fn state_byte(s: LineState, k: usize) -> u8
+    requires { ⌜ k < 5 ⌝ }
+    ensures { λ x. ⌜ x ≡ stateByte s k ⌝ }
+{
+    if k < 4 {
+        return ((s.history >> (8 * k)) % 256) as u8;
+    }
+    s.sign as u8
+}
+
+// Puts a line state into the first 5 bytes; the others stay.
+pub fn state_into(s: LineState, bytes: &mut [u8])
+    requires { ⌜ 5 ≤ length (now bytes) ⌝ }
+    ensures { λ x. ⌜ now (bytes .exit) ≡ over (stateBytes s) (now (bytes .entry)) ⌝ }
+{
+    let mut k = 0;
+    while k < 5 {
+        bytes[k] = state_byte(s, k);
         k += 1;
     }
 }

@@ -28,16 +28,6 @@ fn law_of(number: u8) -> Law {
     Law::A
 }
 
-// The state in the first five bytes.
-fn state_at(bytes: &[u8]) -> LineState
-    requires { ⌜ 5 ≤ length (now bytes) ⌝ }
-{
-    LineState {
-        history: bits::field_at(bytes, 0, 32) as u32,
-        sign: bytes[4] != 0,
-    }
-}
-
 // The record, the law, the frames and the state of a call.
 fn setup_at(call: &[u8]) -> Setup
     requires { ⌜ 122 ≤ length (now call) ⌝ }
@@ -45,7 +35,7 @@ fn setup_at(call: &[u8]) -> Setup
     let cp = forms::record_from(&call[1..]);
     let law = law_of(call[106]);
     let frames = bits::field_at(call, 856, 64) as usize;
-    let state = state_at(&call[115..]);
+    let state = forms::state_from(&call[115..]);
     Setup {
         cp,
         law,
@@ -81,8 +71,7 @@ fn put_done(done: FramesDone, reply: &mut [u8])
     let outcome = done.outcome;
     let state = done.state;
     bits::put_field(reply, 0, 8, answer::number_of(outcome) as u64);
-    bits::put_field(reply, 8, 32, state.history as u64);
-    bits::put_field(reply, 40, 8, state.sign as u64);
+    forms::state_into(state, &mut reply[1..]);
 }
 
 // Sends into a buffer that is filled first.

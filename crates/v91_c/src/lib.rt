@@ -1,0 +1,129 @@
+// The C interface: interop/v91.h declares these functions.
+use standard::Law;
+ghost use mathlib.Core.Path.{_≡_};
+ghost use Rattle.standard.specs.Calls.{linearCall, linearRefusal, linearSamples};
+ghost use Rattle.v91_c.specs.Interface.{lawOf, v91ReadCp, v91WriteCp, v91Send, v91Receive};
+
+// The bytes of a record.
+const RECORD_BYTES: usize = 105;
+
+// The bytes of a line state.
+const STATE_BYTES: usize = 5;
+
+// The law that the flag `a_law` names.
+fn law_of(a_law: bool) -> Law
+    ensures { λ l. ⌜ l ≡ lawOf «a_law» ⌝ }
+{
+    if a_law {
+        return Law::A;
+    }
+    Law::Mu
+}
+
+// Each octet's signed linear value into `samples`.
+#[no_mangle]
+pub extern "C" fn v91_linear(a_law: bool, octets: &[u8], samples: &mut [i32]) -> u32
+    ensures { λ r. ⌜ (r ≡ linearRefusal (linearCall (lawOf «a_law») (now (octets .entry)) (now (samples .entry))))
+        × (now (samples .exit) ≡ linearSamples (linearCall (lawOf «a_law») (now (octets .entry)) (now (samples .entry)))) ⌝ }
+{
+    answer::number_of(pcm::linear(law_of(a_law), octets, samples)) as u32
+}
+
+// Writes a record's CP, and answers its bit count.
+#[no_mangle]
+pub extern "C" fn v91_write_cp(rec: &[u8], cp: &mut [u8]) -> u32
+    ensures { λ r. ⌜ v91WriteCp (now (rec .entry)) (now (cp .entry)) ≡ record { answer = r; cp = now (cp .exit) } ⌝ }
+{
+    if rec.len() < RECORD_BYTES {
+        return 16;
+    }
+    let done = cp::write_cp(forms::record_from(rec), cp);
+    let count = done.bit_count as u32;
+    let outcome = done.outcome;
+    let refusal = answer::number_of(outcome) as u32;
+    if refusal != 0 {
+        return refusal;
+    }
+    count
+}
+
+// Reads a CP of `bit_count` bits into a record.
+#[no_mangle]
+pub extern "C" fn v91_read_cp(cp: &[u8], bit_count: usize, rec: &mut [u8]) -> u32
+    ensures { λ r. ⌜ v91ReadCp (now (cp .entry)) «bit_count» (now (rec .entry)) ≡ record { answer = r; rec = now (rec .exit) } ⌝ }
+{
+    if rec.len() < RECORD_BYTES {
+        return 17;
+    }
+    let read = cp::read_cp(cp, bit_count);
+    let outcome = read.outcome;
+    let refusal = answer::number_of(outcome) as u32;
+    if refusal != 0 {
+        return refusal;
+    }
+    forms::record_into(read.record, rec);
+    0
+}
+
+// Sends frames of data bits as octets, from the line state and to the one left.
+#[no_mangle]
+pub extern "C" fn v91_send(
+    rec: &[u8],
+    a_law: bool,
+    frames: usize,
+    bits: &[u8],
+    octets: &mut [u8],
+    state: &mut [u8],
+) -> u32
+    ensures { λ r. ⌜ v91Send (now (rec .entry)) «a_law» frames (now (bits .entry)) (now (octets .entry)) (now (state .entry))
+        ≡ record { answer = r; octets = now (octets .exit); state = now (state .exit) } ⌝ }
+{
+    if rec.len() < RECORD_BYTES {
+        return 16;
+    }
+    if state.len() < STATE_BYTES {
+        return 16;
+    }
+    let r = forms::record_from(rec);
+    let line = forms::state_from(state);
+    let done = codec::send(r, law_of(a_law), frames, line, bits, octets);
+    let outcome = done.outcome;
+    let refusal = answer::number_of(outcome) as u32;
+    if refusal != 0 {
+        return refusal;
+    }
+    forms::state_into(done.state, state);
+    0
+}
+
+// Receives octets as data bits and a mark for each frame, from the line state and to the one left.
+#[no_mangle]
+pub extern "C" fn v91_receive(
+    rec: &[u8],
+    a_law: bool,
+    frames: usize,
+    octets: &[u8],
+    bits: &mut [u8],
+    marks: &mut [u8],
+    state: &mut [u8],
+) -> u32
+    ensures { λ r. ⌜ v91Receive (now (rec .entry)) «a_law» frames (now (octets .entry)) (now (bits .entry)) (now (marks .entry)) (now (state .entry))
+        ≡ record { answer = r; bits = now (bits .exit); marks = now (marks .exit); state = now (state .exit) } ⌝ }
+{
+    if rec.len() < RECORD_BYTES {
+        return 16;
+    }
+    if state.len() < STATE_BYTES {
+        return 16;
+    }
+    let r = forms::record_from(rec);
+    let line = forms::state_from(state);
+    let done = codec::receive(r, law_of(a_law), frames, line, octets, bits, marks);
+    let outcome = done.outcome;
+    let refusal = answer::number_of(outcome) as u32;
+    if refusal != 0 {
+        return refusal;
+    }
+    forms::state_into(done.state, state);
+    0
+}

@@ -1,0 +1,490 @@
+"""Differential test: every call of a codec's C functions is compared with reference/.
+
+    difference.py LIBRARY PREFIX [--seed S] [--calls N] [--show]
+
+LIBRARY is a shared object with the functions of v91.h under PREFIX, `v91_` or `plain_`. Compared are
+the answer and every byte of every buffer afterwards, with canary bytes before and behind it. The test
+stops at the first difference with a line that shows the call; --show prints every call before it is
+made. The exit status is 0 if all was the same and every refusal and mark came up, else 1.
+"""
+
+import argparse
+import ctypes
+import struct
+import sys
+import time
+from collections import Counter
+from itertools import combinations
+from pathlib import Path
+
+sys.dont_write_bytecode = True
+sys.path.insert(0, str(Path(__file__).resolve().parent.parent / "reference"))
+
+import cases_cp
+import cases_frames
+import cp
+import forms
+import frames
+import linear
+import record
+from samples import Draw, a_record, a_state, faulty_record
+
+RECORD_BYTES, STATE_BYTES = 105, 5
+
+# The parameters of each entry; all but a_law and the counts are buffers: a pointer and a length.
+ENTRIES = {
+    "read_cp": ("cp", "bit_count", "record"),
+    "write_cp": ("record", "cp"),
+    "send": ("record", "a_law", "frames", "bits", "octets", "state"),
+    "receive": ("record", "a_law", "frames", "octets", "bits", "marks", "state"),
+    "linear": ("a_law", "octets", "samples"),
+}
+KINDS = list(ENTRIES)  # in the order of forms.py
+NUMBERS = {"a_law": ctypes.c_bool, "frames": ctypes.c_size_t, "bit_count": ctypes.c_size_t}
+
+REFUSALS = {
+    "read_cp": {*range(1, 12), 17},
+    "write_cp": {4, *range(9, 13), 16, 17},
+    "send": {4, *range(9, 18)},
+    "receive": {4, *range(9, 18)},
+    "linear": {17},
+}
+PAIRS = {
+    "read_cp": cases_cp.pairs(cases_cp.READER_NUMBERS),
+    "write_cp": cases_cp.pairs(cases_cp.WRITER_NUMBERS),
+    "send": cases_frames.pairs(),
+    "receive": cases_frames.pairs(),
+    "linear": [],
+}
+FAULTY = {  # how the reference makes a case in which given refusals hold, and which it can
+    "read_cp": (cases_cp.faulty_sequence, cases_cp.READER_NUMBERS),
+    "write_cp": (cases_cp.faulty_writing, cases_cp.WRITER_NUMBERS),
+    "send": (cases_frames.faulty_send, cases_frames.NUMBERS),
+    "receive": (cases_frames.faulty_receive, cases_frames.NUMBERS),
+}
+ENOUGH = 20_000  # from so many calls on, all of these have to come up
+
+
+# What the reference says: (answer, buffers that change)
+
+def record_from(form):
+    """The record in a buffer; a flag counts as 1 where its byte is not 0."""
+    rec = record.unpack(form[:RECORD_BYTES])
+    return rec._replace(granted=int(rec.granted != 0), acknowledge=int(rec.acknowledge != 0))
+
+
+def state_from(form):
+    """The line state in a buffer."""
+    state = frames.unpack_state(form[:STATE_BYTES])
+    return state._replace(sign=int(state.sign != 0))
+
+
+def state_left(state, form):
+    """The state buffer after an accepted call, also one of no frames: the sign is then 0 or 1."""
+    return frames.pack_state(state) + form[STATE_BYTES:]
+
+
+def want_read_cp(sequence, bit_count, form):
+    if len(form) < RECORD_BYTES:
+        return 17, {}
+    refusal, rec = cp.read_cp(sequence, bit_count)
+    return refusal, {} if refusal else {"record": record.pack(rec) + form[RECORD_BYTES:]}
+
+
+def want_write_cp(form, buffer):
+    if len(form) < RECORD_BYTES:
+        return 16, {}
+    refusal, count, after = cp.write_cp(record_from(form), buffer)
+    return refusal or count, {"cp": after}
+
+
+def want_send(form, a_law, count, bits, octets, state):
+    if len(form) < RECORD_BYTES or len(state) < STATE_BYTES:
+        return 16, {}
+    refusal, left, after = frames.send(record_from(form), a_law, count, state_from(state), bits, octets)
+    return refusal, {} if refusal else {"octets": after, "state": state_left(left, state)}
+
+
+def want_receive(form, a_law, count, octets, bits, marks, state):
+    if len(form) < RECORD_BYTES or len(state) < STATE_BYTES:
+        return 16, {}
+    refusal, left, heard, judged = frames.receive(record_from(form), a_law, count, state_from(state),
+                                                  octets, bits, marks)
+    if refusal:
+        return refusal, {}
+    return 0, {"bits": heard, "marks": judged, "state": state_left(left, state)}
+
+
+def want_linear(a_law, octets, samples):
+    room = len(samples) // 4
+    refusal, after = linear.linear(a_law, octets, struct.unpack(f"<{room}i", samples))
+    return refusal, {"samples": struct.pack(f"<{room}i", *after)}
+
+
+WANT = {"read_cp": want_read_cp, "write_cp": want_write_cp, "send": want_send,
+        "receive": want_receive, "linear": want_linear}
+
+
+# The codec under test
+
+class Memory:
+    """A buffer to lend, between canary bytes."""
+
+    CANARY = bytes(range(0xC1, 0xE1))
+    EDGE = len(CANARY)
+
+    def __init__(self):
+        self.array = ctypes.create_string_buffer(1 << 16)
+        self.view = memoryview(self.array).cast("B")
+        self.base = ctypes.addressof(self.array) + self.EDGE
+
+    def put(self, content, offset):
+        """Lay the content down; its address."""
+        laid = self.CANARY + content + self.CANARY
+        self.view[offset:offset + len(laid)] = laid
+        return self.base + offset
+
+    def get(self, length, offset):
+        """The bytes that are there now, canaries included."""
+        return bytes(self.view[offset:offset + length + 2 * self.EDGE])
+
+
+class Codec:
+    """The C functions."""
+
+    def __init__(self, path, prefix):
+        library = ctypes.CDLL(str(Path(path).resolve()))
+        self.functions = {}
+        self.memories = {name: Memory() for names in ENTRIES.values() for name in names}
+        for entry, names in ENTRIES.items():
+            function = getattr(library, prefix + entry)
+            function.restype = ctypes.c_uint32
+            function.argtypes = []
+            for name in names:
+                buffer = [ctypes.c_void_p, ctypes.c_size_t]
+                function.argtypes += [NUMBERS[name]] if name in NUMBERS else buffer
+            self.functions[entry] = function
+
+    def call(self, entry, values, offset, null):
+        """Lend the buffers and call; (answer, {buffer: what is there now})."""
+        arguments = []
+        for name, value in zip(ENTRIES[entry], values):
+            if name in NUMBERS:
+                arguments.append(value)
+                continue
+            place = self.memories[name].put(value, offset)
+            length = len(value) // 4 if name == "samples" else len(value)
+            arguments += [None if null and not value else place, length]
+        answer = self.functions[entry](*arguments)
+        return answer, {name: self.memories[name].get(len(value), offset)
+                        for name, value in zip(ENTRIES[entry], values) if name not in NUMBERS}
+
+
+class Enough(Exception):
+    """All calls are made."""
+
+
+class Difference(Exception):
+    """The codec and the reference differ."""
+
+
+def shown(value):
+    return value.hex() if isinstance(value, bytes) else str(value)
+
+
+class Test:
+    """Makes calls, compares and counts."""
+
+    def __init__(self, codec, seed, calls, show):
+        self.codec, self.draw, self.calls, self.show = codec, Draw(seed), calls, show
+        self.made = 0
+        self.counts = {entry: Counter() for entry in ENTRIES}
+        self.marks = Counter()
+        self.held = {entry: set() for entry in ENTRIES}
+        self.sets = [(entry, {number}) for entry in FAULTY for number in FAULTY[entry][1]]
+        self.sets += [(entry, set(pair)) for entry in FAULTY for pair in PAIRS[entry]]
+        self.next_set = 0
+
+    def call(self, entry, *values):
+        """One call, compared; (answer, {buffer: wanted afterwards})."""
+        if self.made == self.calls:
+            raise Enough
+        self.made += 1
+        offset, null = 4 * self.draw.below(4), self.draw.below(2)
+        if entry != "linear":
+            offset += self.draw.below(4)
+        if self.show:
+            print(self.line(entry, values, offset, null), flush=True)
+        answer, changed = WANT[entry](*values)
+        found, there = self.codec.call(entry, values, offset, null)
+        after = {name: changed.get(name, value) for name, value in zip(ENTRIES[entry], values)}
+        faults = [] if found == answer else [f"answer {found}, wanted {answer}"]
+        for name, now in there.items():
+            wanted = Memory.CANARY + after[name] + Memory.CANARY
+            if now != wanted:
+                faults.append(f"{name} afterwards, canaries included, {now.hex()}, wanted {wanted.hex()}")
+        if faults:
+            raise Difference(f"{self.line(entry, values, offset, null)}: {'; '.join(faults)}")
+        self.counts[entry]["done" if answer == 0 or answer >= 294 else answer] += 1
+        if entry == "receive" and answer == 0:
+            self.marks.update(after["marks"][:values[2]])
+        return answer, after
+
+    def line(self, entry, values, offset, null):
+        """The call in one line."""
+        words = [f"{name}={shown(value)}" for name, value in zip(ENTRIES[entry], values)]
+        return f"call {self.made} {entry} {' '.join(words)} (offset {offset}, null {null})"
+
+    # Parts of calls
+
+    def some(self, length):
+        """Buffer contents: mostly at random."""
+        fill = self.draw.below(8)
+        return bytes([0xFF * fill]) * length if fill < 2 else self.draw.octets(length)
+
+    def cut(self, form):
+        """A record or state buffer: mostly whole, at times with more bytes, rarely too short."""
+        how = self.draw.below(128)
+        if how < 3:
+            return form[:(0, 1, len(form) - 1)[how]]
+        return form + self.draw.octets(self.draw.pick((1, 7, 100)) if how < 20 else 0)
+
+    def flag(self, value):
+        """A flag's byte."""
+        return self.draw.pick((1, 1, 2, 128, 255)) if value else 0
+
+    def record(self, rec):
+        """A record buffer."""
+        flagged = rec._replace(granted=self.flag(rec.granted), acknowledge=self.flag(rec.acknowledge))
+        return self.cut(record.pack(flagged))
+
+    def state(self, state):
+        """A state buffer."""
+        return self.cut(frames.pack_state(state._replace(sign=self.flag(state.sign))))
+
+    def length(self, needed):
+        """The length of a buffer: mostly as needed, at times more, rarely less."""
+        how = self.draw.below(100)
+        if how < 2:
+            return max(needed - 1, 0) if how else 0
+        return needed + (self.draw.pick((1, 2, 8, 40)) if how < 30 else 0)
+
+    def count(self):
+        """A number of frames: mostly few, rarely about the most."""
+        how = self.draw.below(3000)
+        if how == 0:
+            return self.draw.pick((1023, 1024, 1025, self.draw.below(1024)))
+        if how < 10:
+            return self.draw.bits(self.draw.between(11, 64))
+        return self.draw.below(41) if how < 400 else self.draw.below(6)
+
+    def any_record(self):
+        """A record that is accepted."""
+        if self.draw.below(20) == 0:
+            return a_record(self.draw, 28, granted=1)
+        return a_record(self.draw, self.draw.below(29))
+
+    # Calls
+
+    def send(self, rec, law, count, state):
+        """(Octets sent, state left)."""
+        few = min(count, 1025)
+        bits, octets = self.length(frames.data_bytes(rec, few)), self.length(6 * few)
+        answer, after = self.call("send", self.record(rec), law, count, self.some(bits),
+                                  self.some(octets), self.state(state))
+        return (b"", state) if answer else (after["octets"][:6 * count], state_from(after["state"]))
+
+    def receive(self, rec, law, count, line, state):
+        """The state left."""
+        few = min(count, 1025)
+        spare = self.length(6 * few) - 6 * few
+        octets = line + self.draw.octets(spare) if spare >= 0 else line[:spare]
+        bits, marks = self.length(frames.data_bytes(rec, few)), self.length(few)
+        answer, after = self.call("receive", self.record(rec), law, count, octets, self.some(bits),
+                                  self.some(marks), self.state(state))
+        return state if answer else state_from(after["state"])
+
+    def case(self, case):
+        """A case of the reference's lists, with contents of our own in the buffers to be written."""
+        kind, given = forms.arguments(case)
+        entry = KINDS[kind]
+        if entry == "read_cp":
+            self.call(entry, *given, self.cut(self.some(RECORD_BYTES)))
+        elif entry == "write_cp":
+            self.call(entry, self.record(given[0]), given[1])
+        elif entry == "linear":
+            self.call(entry, given[0], given[1], self.some(4 * len(given[2])))
+        else:
+            rec, law, count, state, read, *written = given
+            written = [self.some(len(each)) for each in written]
+            self.call(entry, self.record(rec), law, count, read, *written, self.state(state))
+
+    # Scenes
+
+    def a_run(self):
+        """Sent in some calls, carried with or without damage, received in others; CP there and back."""
+        draw, rec, law = self.draw, self.any_record(), self.draw.below(2)
+        start = draw.pick((frames.FRESH, a_state(draw)))
+        state, line = start, b""
+        for _ in range(draw.between(1, 3)):
+            octets, state = self.send(rec, law, self.count(), state)
+            line += octets
+        for _ in range(draw.below(4) if line else 0):
+            line = cases_frames.damaged(draw, rec, law, line)
+        state = draw.pick((start, a_state(draw)))
+        while line:
+            count = min(self.count(), len(line) // 6 + (draw.below(20) == 0))
+            state = self.receive(rec, law, count, line[:6 * count], state)
+            line = line[6 * count:]
+        if draw.below(2):
+            needed = cases_cp.byte_count(cases_cp.length_of(rec))
+            self.call("write_cp", self.record(rec), self.some(self.length(needed)))
+            sequence = cases_cp.noisy(draw, rec) if draw.below(2) else cases_cp.plain(rec)
+            sequence += draw.octets(draw.pick((0, 0, 1, 30)))
+            self.call("read_cp", sequence, cases_cp.length_of(rec), self.cut(self.some(RECORD_BYTES)))
+
+    def longest(self):
+        """The most frames that a call can have, and one more, in buffers of the exact lengths."""
+        draw, law = self.draw, self.draw.below(2)
+        rec = a_record(draw, draw.between(1, 28))
+        form, state = record.pack(rec), frames.pack_state(a_state(draw))
+        for count in (frames.MOST_FRAMES, frames.MOST_FRAMES + 1):
+            data = draw.octets(frames.data_bytes(rec, count))
+            _, after = self.call("send", form, law, count, data, draw.octets(6 * count), state)
+            self.call("receive", form, law, count, after["octets"], data, draw.octets(count), state)
+
+    def marked(self):
+        """Frames of every mark, and octets at random."""
+        draw, law = self.draw, self.draw.below(2)
+        rec = cases_frames.a_record_with_all_marks(draw, draw.between(1, 27))
+        state = a_state(draw)
+        for _ in range(8):
+            kinds = [draw.below(8) for _ in range(draw.between(1, 5))]
+            line = b"".join(cases_frames.a_frame(draw, rec, law, mark) for mark in kinds)
+            if draw.below(8) == 0:
+                line = draw.octets(len(line))
+            state = self.receive(rec, law, len(kinds), line, state)
+
+    def refused(self):
+        """The next single refusals and pairs of them, and greater sets for sender and receiver."""
+        for _ in range(8):
+            entry, numbers = self.sets[self.next_set]
+            self.next_set = (self.next_set + 1) % len(self.sets)
+            self.fault(FAULTY[entry][0](self.draw, numbers))
+        numbers = {number for number in cases_frames.NUMBERS if self.draw.below(3) == 0}
+        if cases_frames.possible(numbers) and numbers - {15, 17}:
+            self.fault(cases_frames.faulty_send(self.draw, numbers))
+            self.fault(cases_frames.faulty_receive(self.draw, numbers))
+
+    def fault(self, case):
+        """A case of the reference in which refusals hold."""
+        self.held[KINDS[case[0]]].update(combinations(forms.held(case), 2))
+        self.case(case)
+
+    def bad_buffers(self):
+        """Short record and state buffers together with other refusals and without."""
+        draw = self.draw
+        rec = faulty_record(draw, {draw.pick((4, 9, 10, 11, 12, 13))}) if draw.below(2) else self.any_record()
+        short = [record.pack(rec)[:draw.pick((0, 1, 50, 104))], bytes(draw.pick((0, 1, 4)))]
+        whole = [record.pack(rec), frames.pack_state(a_state(draw))]
+        for forms_lent in ((short[0], whole[1]), (whole[0], short[1]), short):
+            few = [self.some(draw.below(9)) for _ in range(3)]
+            head, state = (forms_lent[0], draw.below(2), draw.pick((0, 1, 2**64 - 1))), forms_lent[1]
+            self.call("send", *head, *few[:2], state)
+            self.call("receive", *head, *few, state)
+        self.call("write_cp", short[0], self.some(draw.pick((0, 36, 122))))
+        self.call("read_cp", draw.octets(draw.pick((0, 37))), draw.pick((0, 294, 2**64 - 1)), short[0])
+
+    def flipped(self):
+        """CP with some bits changed, and with other bit counts."""
+        draw = self.draw
+        rec = self.any_record()
+        sequence, exact = cases_cp.plain(rec), cases_cp.length_of(rec)
+        for _ in range(6):
+            bits, count = int.from_bytes(sequence, "little"), exact
+            for _ in range(draw.pick((0, 0, 0, 1, 2))):
+                bits ^= 1 << draw.below(8 * len(sequence))
+            if draw.below(5) == 0:
+                count = draw.pick((exact - 1, exact + 1, draw.below(1100), draw.bits(draw.between(1, 64))))
+            lent = bits.to_bytes(len(sequence), "little") + draw.octets(draw.pick((0, 0, 1, 20, 130)))
+            lent = lent[:len(lent) - draw.pick((0, 0, 0, 0, 0, 0, 1, len(lent)))]
+            self.call("read_cp", lent, count, self.cut(self.some(RECORD_BYTES)))
+
+    def listed(self):
+        """Some cases of the reference's own lists."""
+        groups = (cases_frames.states, cases_frames.no_frames, cases_frames.number_edges,
+                  cases_cp.counts, cases_cp.fields_at_fault, cases_cp.short_buffers,
+                  cases_cp.stray_masks, cases_cp.record_fields_at_fault)
+        for case in self.draw.pick(groups)(self.draw):
+            if self.draw.below(4) == 0:
+                self.case(case)
+
+    def edges(self):
+        """Records at the edge of refusal 11, written and read."""
+        for rec in cases_cp.edge_records(self.draw):
+            if self.draw.below(4) == 0:
+                self.call("write_cp", self.record(rec), self.some(self.length(122)))
+                sequence = cases_cp.plain(rec)
+                self.call("read_cp", sequence, cases_cp.length_of(rec), self.cut(self.some(RECORD_BYTES)))
+
+    def samples(self):
+        """Linear samples."""
+        for _ in range(2):
+            count = self.draw.pick((self.draw.below(9), 256))
+            octets = bytes(range(256)) if count == 256 else self.draw.octets(count)
+            self.call("linear", self.draw.below(2), octets, self.some(4 * self.length(count)))
+
+    def run(self):
+        """All calls."""
+        often = [self.a_run] * 40 + [self.marked] * 6 + [self.refused] * 6 + [self.flipped] * 6
+        rarely = [self.samples] * 6 + [self.bad_buffers, self.edges] * 2 + [self.listed]
+        try:
+            self.longest()
+            while True:
+                self.draw.pick(often + rarely)()
+                if self.draw.below(1000) == 0:
+                    self.longest()
+        except Enough:
+            pass
+
+    def report(self):
+        """Print the counts; whether all that has to come up did."""
+        lacking = []
+        for entry, counts in self.counts.items():
+            words = [f"{answer}: {counts[answer]}" for answer in ("done", *sorted(REFUSALS[entry]))]
+            pairs = len(self.held[entry] & set(PAIRS[entry]))
+            print(f"{entry}: {sum(counts.values())} calls ({', '.join(words)}),"
+                  f" {pairs} of {len(PAIRS[entry])} pairs of refusals")
+            lacking += [f"{entry} {answer}" for answer in ("done", *REFUSALS[entry]) if not counts[answer]]
+            lacking += [f"{entry} {pair}" for pair in PAIRS[entry] if pair not in self.held[entry]]
+        print("marks:", ", ".join(f"{mark}: {self.marks[mark]}" for mark in range(8)))
+        lacking += [f"mark {mark}" for mark in range(8) if not self.marks[mark]]
+        if lacking and self.made >= ENOUGH:
+            print("never came up:", ", ".join(lacking))
+            return False
+        return True
+
+
+def main():
+    parser = argparse.ArgumentParser(description="Compare a codec's C functions with reference/.")
+    parser.add_argument("library")
+    parser.add_argument("prefix", choices=("v91_", "plain_"))
+    parser.add_argument("--seed", type=int, default=1)
+    parser.add_argument("--calls", type=int, default=100_000)
+    parser.add_argument("--show", action="store_true")
+    options = parser.parse_args()
+    test = Test(Codec(options.library, options.prefix), options.seed, options.calls, options.show)
+    begun = time.monotonic()
+    try:
+        test.run()
+    except Difference as difference:
+        print(f"DIFFERENCE, seed {options.seed}, {options.prefix}: {difference}")
+        return 1
+    complete = test.report()
+    rate = test.made / (time.monotonic() - begun)
+    print(f"{test.made} calls of {options.prefix} with seed {options.seed}: no difference, {rate:.0f} a second")
+    return 0 if complete else 1
+
+
+if __name__ == "__main__":
+    sys.exit(main())

@@ -1,0 +1,71 @@
+/* Reads a CP, sends 63 one bits in three frames, receives them, and prints what came of it.
+   Exits with 1 if anything is not as expected. */
+#include "v91.h"
+
+#include <stdio.h>
+#include <stdlib.h>
+#include <string.h>
+
+enum { FRAMES = 3, CP_BITS = 294 };
+
+/* One mask with Ucodes 0 to 5 for all intervals, drn 1: a frame carries 21 bits. */
+static const uint8_t cp[37] = {
+    0xff, 0xff, 0x19, 0, 0, 0, 0, 0, 0, 0, 0, 0, 0, 0, 0, 0, 0, 0x7e, 0, 0,
+    0, 0, 0, 0, 0, 0, 0, 0, 0, 0, 0, 0, 0, 0, 0xe0, 0xd0, 0,
+};
+
+static const uint8_t expected_octets[6 * FRAMES] = {
+    0xfd, 0x7e, 0xff, 0x7a, 0xfd, 0x7a, 0x7b, 0x7b, 0xfc,
+    0x7c, 0xfa, 0x7a, 0x7d, 0x7a, 0x7d, 0x7e, 0xff, 0x7d,
+};
+
+static void expect(bool holds, const char *what)
+{
+    if (!holds) {
+        fprintf(stderr, "example: %s\n", what);
+        exit(1);
+    }
+}
+
+static void print_hex(const char *name, const uint8_t *bytes, size_t count)
+{
+    printf("%s", name);
+    for (size_t i = 0; i < count; i++)
+        printf(" %02x", bytes[i]);
+    printf("\n");
+}
+
+int main(void)
+{
+    uint8_t record[V91_RECORD_BYTES], again[V91_CP_BYTES];
+    uint8_t bits[8], octets[6 * FRAMES], heard[8], marks[FRAMES];
+    uint8_t sender[V91_STATE_BYTES] = { 0 }, receiver[V91_STATE_BYTES] = { 0 };
+    int32_t samples[6 * FRAMES];
+
+    expect(v91_read_cp(cp, sizeof cp, CP_BITS, record, sizeof record) == 0, "the CP is refused");
+    expect(v91_write_cp(record, sizeof record, again, sizeof again) == CP_BITS, "the record is refused");
+    expect(memcmp(again, cp, sizeof cp) == 0, "the CP written is not the CP read");
+
+    memset(bits, 0xff, sizeof bits);
+    expect(v91_send(record, sizeof record, false, FRAMES, bits, sizeof bits,
+                    octets, sizeof octets, sender, sizeof sender) == 0, "the sender refuses");
+    expect(v91_receive(record, sizeof record, false, FRAMES, octets, sizeof octets, heard, sizeof heard,
+                       marks, sizeof marks, receiver, sizeof receiver) == 0, "the receiver refuses");
+    expect(v91_linear(false, octets, sizeof octets, samples, 6 * FRAMES) == 0, "no samples");
+
+    print_hex("octets", octets, sizeof octets);
+    printf("bits  ");
+    for (int n = 0; n < 21 * FRAMES; n++)
+        printf("%s%d", n % 21 ? "" : " ", heard[n / 8] >> n % 8 & 1);
+    printf("\n");
+    print_hex("marks ", marks, sizeof marks);
+    print_hex("state ", sender, sizeof sender);
+
+    bits[7] = 0x7f; /* the 64th bit was not sent */
+    expect(memcmp(octets, expected_octets, sizeof octets) == 0, "other octets than expected");
+    expect(memcmp(heard, bits, sizeof bits) == 0, "other bits than those sent");
+    expect(marks[0] == 0 && marks[1] == 0 && marks[2] == 0, "a frame is marked");
+    expect(memcmp(sender, receiver, sizeof sender) == 0, "the two ends are in different states");
+    expect(samples[0] == 16 && samples[1] == -8, "other samples than expected");
+    return 0;
+}

@@ -1,0 +1,402 @@
+/* The plain codec: see v91.h for what each function does. gcc or clang. */
+#include "plain.h"
+
+#include <string.h>
+
+enum { RECORD_BYTES = 105, STATE_BYTES = 5, HISTORY_BITS = 23, MOST_FRAMES = 1024 };
+
+/* Numbers in bytes, low byte first */
+
+static uint64_t get_number(const uint8_t *from, int bytes)
+{
+    uint64_t value = 0;
+    for (int i = 0; i < bytes; i++)
+        value |= (uint64_t)from[i] << 8 * i;
+    return value;
+}
+
+static void put_number(uint8_t *to, int bytes, uint64_t value)
+{
+    for (int i = 0; i < bytes; i++)
+        to[i] = (uint8_t)(value >> 8 * i);
+}
+
+/* The record */
+
+struct record {
+    unsigned granted, drn, acknowledge;
+    unsigned index[6];
+    uint64_t half[12];
+};
+
+static void get_record(struct record *r, const uint8_t *from)
+{
+    r->granted = from[0] != 0;
+    r->drn = from[1];
+    r->acknowledge = from[2] != 0;
+    for (int i = 0; i < 6; i++)
+        r->index[i] = from[3 + i];
+    for (int h = 0; h < 12; h++)
+        r->half[h] = get_number(from + 9 + 8 * h, 8);
+}
+
+static void put_record(const struct record *r, uint8_t *to)
+{
+    to[0] = (uint8_t)r->granted;
+    to[1] = (uint8_t)r->drn;
+    to[2] = (uint8_t)r->acknowledge;
+    for (int i = 0; i < 6; i++)
+        to[3 + i] = (uint8_t)r->index[i];
+    for (int h = 0; h < 12; h++)
+        put_number(to + 9 + 8 * h, 8, r->half[h]);
+}
+
+static unsigned largest_index(const struct record *r)
+{
+    unsigned g = 0;
+    for (int i = 0; i < 6; i++)
+        if (r->index[i] > g)
+            g = r->index[i];
+    return g;
+}
+
+static uint64_t mask_size(const struct record *r, unsigned m)
+{
+    return (uint64_t)(__builtin_popcountll(r->half[2 * m]) + __builtin_popcountll(r->half[2 * m + 1]));
+}
+
+/* Refusals 4 and 9 to 12. */
+static uint32_t record_refusal(const struct record *r)
+{
+    unsigned g = largest_index(r);
+    if (g > 5)
+        return 4;
+    if (r->drn > 28)
+        return 9;
+    if (r->granted && r->drn != 28)
+        return 10;
+    if (r->drn > 0) {
+        uint64_t product = 1;
+        for (int i = 0; i < 6; i++)
+            product *= mask_size(r, r->index[i]);
+        if (product >> (r->drn + 14) == 0)
+            return 11;
+    }
+    for (unsigned h = 2 * g + 2; h < 12; h++)
+        if (r->half[h])
+            return 12;
+    return 0;
+}
+
+/* CP. A field of up to 16 bits lies within three bytes, and up to the CRC these are within the CP. */
+
+static const unsigned index_at[6] = { 103, 107, 111, 115, 120, 124 };
+
+static unsigned cp_length(unsigned g)
+{
+    return (289 + 136 * g + 5) / 6 * 6;
+}
+
+static unsigned get_field(const uint8_t *cp, unsigned at, unsigned width)
+{
+    return (unsigned)(get_number(cp + at / 8, 3) >> at % 8) & ((1u << width) - 1);
+}
+
+static void put_field(uint8_t *cp, unsigned at, unsigned value)
+{
+    put_number(cp + at / 8, 3, get_number(cp + at / 8, 3) | (uint64_t)value << at % 8);
+}
+
+static unsigned crc(const uint8_t *cp, unsigned g)
+{
+    unsigned reg = 0xFFFF;
+    for (unsigned at = 18; at < 272 + 136 * g; at += 17) {
+        unsigned word = get_field(cp, at, 16);
+        for (int b = 0; b < 16; b++) {
+            unsigned differ = (reg ^ word >> b) & 1;
+            reg = reg >> 1 ^ (differ ? 0x8408 : 0);
+        }
+    }
+    return reg;
+}
+
+uint32_t plain_read_cp(const uint8_t *cp, size_t cp_len, size_t bit_count,
+                       uint8_t *record, size_t record_len)
+{
+    struct record r = { 0 };
+    unsigned g;
+
+    if (record_len < RECORD_BYTES)
+        return 17;
+    if (bit_count / 8 + (bit_count % 8 != 0) > cp_len)
+        return 1;
+    if (bit_count < 294)
+        return 2;
+    if (get_field(cp, 0, 16) != 0xFFFF || !get_field(cp, 16, 1))
+        return 3;
+    for (int i = 0; i < 6; i++)
+        r.index[i] = get_field(cp, index_at[i], 4);
+    g = largest_index(&r);
+    if (g > 5)
+        return 4;
+    if (bit_count != cp_length(g))
+        return 5;
+    for (unsigned at = 17; at <= 272 + 136 * g; at += 17)
+        if (get_field(cp, at, 1))
+            return 6;
+    if (crc(cp, g) != get_field(cp, 273 + 136 * g, 16))
+        return 7;
+    if (!get_field(cp, 19, 1) || get_field(cp, 30, 3) || get_field(cp, 128, 1))
+        return 8;
+    r.granted = get_field(cp, 18, 1);
+    r.drn = get_field(cp, 20, 5);
+    r.acknowledge = get_field(cp, 33, 1);
+    for (unsigned m = 0; m <= g; m++)
+        for (unsigned c = 0; c < 8; c++)
+            r.half[2 * m + c / 4] |= (uint64_t)get_field(cp, 137 + 136 * m + 17 * c, 16) << 16 * (c % 4);
+    uint32_t refusal = record_refusal(&r);
+    if (refusal)
+        return refusal;
+    put_record(&r, record);
+    return 0;
+}
+
+uint32_t plain_write_cp(const uint8_t *record, size_t record_len, uint8_t *cp, size_t cp_len)
+{
+    struct record r;
+
+    if (record_len < RECORD_BYTES)
+        return 16;
+    get_record(&r, record);
+    uint32_t refusal = record_refusal(&r);
+    if (refusal)
+        return refusal;
+    unsigned g = largest_index(&r), count = cp_length(g), bytes = (count + 7) / 8;
+    if (cp_len < bytes)
+        return 17;
+    memset(cp, 0, bytes);
+    put_field(cp, 0, 0xFFFF);
+    put_field(cp, 16, 1);
+    put_field(cp, 18, r.granted | 1u << 1 | r.drn << 2);
+    put_field(cp, 33, r.acknowledge);
+    for (int i = 0; i < 6; i++)
+        put_field(cp, index_at[i], r.index[i]);
+    for (unsigned m = 0; m <= g; m++)
+        for (unsigned c = 0; c < 8; c++)
+            put_field(cp, 137 + 136 * m + 17 * c, r.half[2 * m + c / 4] >> 16 * (c % 4) & 0xFFFF);
+    put_field(cp, 273 + 136 * g, crc(cp, g));
+    return count;
+}
+
+/* Line state. `past` is the history in the order of time: bit 0 is the oldest, bit 22 the latest. */
+
+static uint64_t reversed(uint64_t history)
+{
+    uint64_t past = 0;
+    for (int b = 0; b < HISTORY_BITS; b++)
+        past |= (history >> b & 1) << (HISTORY_BITS - 1 - b);
+    return past;
+}
+
+static void put_state(uint8_t *state, uint64_t past, unsigned sign)
+{
+    put_number(state, 4, reversed(past));
+    state[4] = (uint8_t)sign;
+}
+
+/* Refusals 4 and 9 to 15, and 16 before them for a short record or state. */
+static uint32_t call_refusal(struct record *r, const uint8_t *record, size_t record_len,
+                             size_t frames, const uint8_t *state, size_t state_len)
+{
+    if (record_len < RECORD_BYTES || state_len < STATE_BYTES)
+        return 16;
+    get_record(r, record);
+    uint32_t refusal = record_refusal(r);
+    if (refusal)
+        return refusal;
+    if (frames > 0 && r->drn == 0)
+        return 13;
+    if (get_number(state, 4) >> HISTORY_BITS)
+        return 14;
+    if (frames > MOST_FRAMES)
+        return 15;
+    return 0;
+}
+
+static size_t data_bytes(size_t frames, unsigned width)
+{
+    return (frames * width + 7) / 8;
+}
+
+/* 18 bits at a time: none of them depends on another of them. */
+static uint64_t scramble(uint64_t *past, uint64_t data, unsigned width)
+{
+    uint64_t line = 0;
+    for (unsigned at = 0; at < width; at += 18) {
+        unsigned n = width - at < 18 ? width - at : 18;
+        uint64_t bits = (data >> at ^ *past ^ *past >> 5) & ((1u << n) - 1);
+        line |= bits << at;
+        *past = (*past | bits << HISTORY_BITS) >> n;
+    }
+    return line;
+}
+
+static uint64_t descramble(uint64_t *past, uint64_t line, unsigned width)
+{
+    uint64_t all = *past | line << HISTORY_BITS;
+    uint64_t data = (line ^ all ^ all >> 5) & (((uint64_t)1 << width) - 1);
+    *past = width < HISTORY_BITS ? all >> width : line >> (width - HISTORY_BITS);
+    return data;
+}
+
+/* The positive octets of mask m by label: the largest Ucode has label 0. */
+static void octets_by_label(uint8_t *table, const struct record *r, unsigned m, uint8_t positive)
+{
+    for (unsigned h = 2; h-- > 0;)
+        for (uint64_t rest = r->half[2 * m + h]; rest;) {
+            unsigned bit = 63 - (unsigned)__builtin_clzll(rest);
+            *table++ = (uint8_t)(positive ^ (64 * h + bit));
+            rest ^= (uint64_t)1 << bit;
+        }
+}
+
+/* The labels of mask m by the lower seven bits of the octet; 255 where the mask lacks the Ucode. */
+static void labels_by_octet(uint8_t *table, const struct record *r, unsigned m, uint8_t positive)
+{
+    uint8_t label = 0;
+    memset(table, 255, 128);
+    for (unsigned h = 2; h-- > 0;)
+        for (uint64_t rest = r->half[2 * m + h]; rest;) {
+            unsigned bit = 63 - (unsigned)__builtin_clzll(rest);
+            table[(positive ^ (64 * h + bit)) & 127] = label++;
+            rest ^= (uint64_t)1 << bit;
+        }
+}
+
+uint32_t plain_send(const uint8_t *record, size_t record_len, bool a_law, size_t frames,
+                    const uint8_t *bits, size_t bits_len, uint8_t *octets, size_t octets_len,
+                    uint8_t *state, size_t state_len)
+{
+    struct record r;
+    uint8_t tables[6][128];
+    const uint8_t *table[6];
+    uint64_t size[6];
+
+    uint32_t refusal = call_refusal(&r, record, record_len, frames, state, state_len);
+    if (refusal)
+        return refusal;
+    unsigned width = r.drn + 20;
+    if (bits_len < data_bytes(frames, width))
+        return 16;
+    if (octets_len < 6 * frames)
+        return 17;
+
+    unsigned g = largest_index(&r);
+    for (unsigned m = 0; m <= g; m++)
+        octets_by_label(tables[m], &r, m, a_law ? 0xD5 : 0xFF);
+    for (int i = 0; i < 6; i++) {
+        table[i] = tables[r.index[i]];
+        size[i] = mask_size(&r, r.index[i]);
+    }
+
+    uint64_t past = reversed(get_number(state, 4)), held = 0;
+    unsigned sign = state[4] != 0, holds = 0;
+    for (size_t n = 0; n < frames; n++) {
+        for (; holds < width; holds += 8)
+            held |= (uint64_t)*bits++ << holds;
+        uint64_t line = scramble(&past, held, width);
+        held >>= width;
+        holds -= width;
+        uint64_t number = line >> 6;
+        for (int i = 0; i < 6; i++) {
+            uint64_t label = number;
+            if (i < 5) {
+                label = number % size[i];
+                number /= size[i];
+            }
+            sign ^= line >> i & 1;
+            *octets++ = table[i][label] & (sign ? 0xFF : 0x7F);
+        }
+    }
+    put_state(state, past, sign);
+    return 0;
+}
+
+uint32_t plain_receive(const uint8_t *record, size_t record_len, bool a_law, size_t frames,
+                       const uint8_t *octets, size_t octets_len, uint8_t *bits, size_t bits_len,
+                       uint8_t *marks, size_t marks_len, uint8_t *state, size_t state_len)
+{
+    struct record r;
+    uint8_t tables[6][128];
+    const uint8_t *table[6];
+    uint64_t size[6];
+
+    uint32_t refusal = call_refusal(&r, record, record_len, frames, state, state_len);
+    if (refusal)
+        return refusal;
+    unsigned width = r.drn + 20;
+    if (octets_len < 6 * frames)
+        return 16;
+    if (bits_len < data_bytes(frames, width) || marks_len < frames)
+        return 17;
+
+    unsigned g = largest_index(&r);
+    for (unsigned m = 0; m <= g; m++)
+        labels_by_octet(tables[m], &r, m, a_law ? 0xD5 : 0xFF);
+    for (int i = 0; i < 6; i++) {
+        table[i] = tables[r.index[i]];
+        size[i] = mask_size(&r, r.index[i]);
+    }
+
+    uint64_t past = reversed(get_number(state, 4)), held = 0;
+    unsigned sign = state[4] != 0, holds = 0;
+    for (size_t n = 0; n < frames; n++) {
+        uint64_t number = 0, data = 0;
+        unsigned signs = 0;
+        uint8_t mark = 0;
+        for (int i = 5; i >= 0; i--) {
+            uint8_t label = table[i][octets[i] & 127];
+            if (label == 255)
+                mark = (uint8_t)(i + 1);
+            number = number * size[i] + label;
+            signs = signs << 1 | octets[i] >> 7;
+        }
+        if (mark == 0 && number >> (r.drn + 14))
+            mark = 7;
+        uint64_t line = mark ? 0 : ((signs ^ (signs << 1 | sign)) & 63) | number << 6;
+        data = descramble(&past, line, width);
+        if (mark)
+            data = 0;
+        sign = octets[5] >> 7;
+        octets += 6;
+        *marks++ = mark;
+        held |= data << holds;
+        for (holds += width; holds >= 8; holds -= 8) {
+            *bits++ = (uint8_t)held;
+            held >>= 8;
+        }
+    }
+    if (holds)
+        *bits = (uint8_t)held;
+    put_state(state, past, sign);
+    return 0;
+}
+
+uint32_t plain_linear(bool a_law, const uint8_t *octets, size_t octets_len,
+                      int32_t *samples, size_t samples_len)
+{
+    if (samples_len < octets_len)
+        return 17;
+    for (size_t n = 0; n < octets_len; n++) {
+        int ucode = (octets[n] ^ (a_law ? 0xD5 : 0xFF)) & 127;
+        int segment = ucode >> 4, step = ucode & 15, value;
+        if (!a_law)
+            value = ((8 * step + 132) << segment) - 132;
+        else if (segment == 0)
+            value = 16 * step + 8;
+        else
+            value = (16 * step + 264) << (segment - 1);
+        samples[n] = octets[n] & 128 ? value : -value;
+    }
+    return 0;
+}
