@@ -8,7 +8,6 @@ use standard::FramesDone;
 use standard::Law;
 use standard::LineState;
 use standard::Record;
-ghost use mathlib.Core.Path.{_≡_};
 ghost use Prim.Native.Nat.{_+_, _*_, _%_, _<_, _≤_};
 ghost use lib.ListN.{length};
 

@@ -1,6 +1,4 @@
 -- `signed::magnitude` meets its contract: a 32-bit number and its negation fit in 64 bits. Assumes nothing.
-use mathlib.Core.Path.{_≡_}
-use native.Mathlib.Omega.{arith}
 use Rattle.signed.proofs.Signed.{own-fits, own-cast, own-abs, negated-fits, negated-cast, negated-abs, abs-le}
 use Rattle.signed.proofs.magnitude.Statement.{statement}
 use Rattle.signed.proofs.magnitude.Tie as tie
