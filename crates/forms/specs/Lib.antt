@@ -1,2 +1,3 @@
 pub mod RecordBytes
 pub mod StateBytes
+pub mod Back

@@ -1,0 +1,94 @@
+-- What was put into bytes is what is read from them. Assumes nothing.
+use mathlib.Core.Path.{_≡_, refl, sym, ap, ap₂, _∙_}
+use Prim.Native.Nat.{ℕ, _+_, _-_, _*_, _/_, _%_, _^_, _≤_, _<_}
+use mathlib.Core.Bool.{Bool, true, false, cond}
+use mathlib.Core.List.{List, _++_}
+use native.Mathlib.Nat.{zero-add}
+use native.Mathlib.Omega.{arith}
+use borrow.Author.Tests.{lt-ltb, le-ltb}
+use lib.Dec.{lit<, ltb}
+use lib.ListN.{length, getD, List·getD-append}
+use Rattle.standard.specs.Lists.{listFrom}
+use Rattle.standard.specs.Bits.{weight, positive, bit, bitAt, field}
+use Rattle.standard.specs.Record.{indexOf, halfOf}
+use Rattle.standard.specs.declared.Record.{Record}
+use Rattle.standard.specs.declared.LineState.{LineState}
+use Rattle.standard.proofs.Lists.{length-listFrom, getD-list, listFrom-is}
+use Rattle.standard.proofs.Bits.{field-bit, field-is, field-number}
+use Rattle.forms.specs.RecordBytes.{halfByte, recordByte, recordBytes, indexAt, halfAt, recordAt}
+use Rattle.forms.specs.StateBytes.{stateByte, stateBytes, stateAt}
+use Rattle.forms.specs.Back.{StateBack, RecordBack}
+
+-- element k of n listed ones with more behind them
+listed-at : (f : ℕ → ℕ) (n : ℕ) (t : List ℕ) (k : ℕ) → k < n → getD (listFrom f 0 n ++ t) k 0 ≡ f k
+listed-at f n t k h = List·getD-append (listFrom f 0 n) t 0 k (rw (length-listFrom f 0 n) h) ∙ getD-list f 0 n k h
+
+positive-weight : (b : Bool) → positive (weight b) ≡ b
+positive-weight true = refl
+positive-weight false = refl
+
+-- bit i of byte q of a number
+byte-bit : (w q i : ℕ) → i < 8 → bit (w / 2 ^ (8 * q) % 256) i ≡ bit w (8 * q + i)
+byte-bit w q i h = ap (λ (x : ℕ). bit x i) (sym (field-number w (8 * q) 8)) ∙ field-bit (bit w) (8 * q) 8 i h
+
+-- n bytes from byte p on that are those of a number w hold it
+bytes-hold : (s : List ℕ) (p n w : ℕ) → ((q : ℕ) → q < n → getD s (p + q) 0 ≡ w / 2 ^ (8 * q) % 256) → w < 2 ^ (8 * n) → field (bitAt s) (8 * p) (8 * n) ≡ w
+unfolding bitAt
+bytes-hold s p n w e h =
+    field-is (bitAt s) (8 * p) (8 * n) w
+    (λ j l.
+    let d : (8 * p + j) / 8 ≡ p + j / 8 = omega arith in
+    let m : (8 * p + j) % 8 ≡ j % 8 = omega arith in
+    let b : 8 * (j / 8) + j % 8 ≡ j = omega arith in
+    ap₂ (λ (x y : ℕ). bit (getD s x 0) y) d m ∙ ap (λ (x : ℕ). bit x (j % 8)) (e (j / 8) (omega arith))
+    ∙ byte-bit w (j / 8) (j % 8) (omega arith) ∙ ap (bit w) b)
+    h
+
+pub state-back : StateBack
+unfolding stateAt stateBytes stateByte
+state-back st t h =
+    ap₂ (λ (x : ℕ) (b : Bool). record { history = x; sign = b })
+    (bytes-hold (stateBytes st ++ t) 0 4 (st .history)
+    (λ q l. ap (λ (x : ℕ). getD (stateBytes st ++ t) x 0) (zero-add q) ∙ listed-at (stateByte st) 5 t q (omega arith) ∙ rw (lt-ltb q 4 l) refl) h)
+    (ap positive (listed-at (stateByte st) 5 t 4 (lit< tt)) ∙ positive-weight (st .sign))
+
+module _ (r : Record) (t : List ℕ) where
+  abbrev s : List ℕ
+  s = recordBytes r ++ t
+
+  byte : (k : ℕ) → k < 105 → getD s k 0 ≡ recordByte r k
+  unfolding recordBytes
+  byte k h = listed-at (recordByte r) 105 t k h
+
+  index-byte : (i : ℕ) → i < 6 → getD s (3 + i) 0 ≡ indexOf r i
+  unfolding recordByte
+  index-byte i h =
+      let e : 3 + i - 3 ≡ i = omega arith in
+      byte (3 + i) (omega arith) ∙ rw (le-ltb (3 + i) 1 (omega arith), le-ltb (3 + i) 2 (omega arith), le-ltb (3 + i) 3 (omega arith), lt-ltb (3 + i) 9 (omega arith), e) refl
+
+  half-byte : (k : ℕ) → k < 96 → getD s (9 + k) 0 ≡ halfByte (r .mask) k
+  unfolding recordByte
+  half-byte k h =
+      let e : 9 + k - 9 ≡ k = omega arith in
+      byte (9 + k) (omega arith) ∙ rw (le-ltb (9 + k) 1 (omega arith), le-ltb (9 + k) 2 (omega arith), le-ltb (9 + k) 3 (omega arith), le-ltb (9 + k) 9 (omega arith), e) refl
+
+  half : (h : ℕ) → h < 12 → halfOf r h < 2 ^ 64 → halfAt s h ≡ halfOf r h
+  half h l b =
+      let p : 8 * (9 + 8 * h) ≡ 72 + 64 * h = omega arith in
+      ap (λ (x : ℕ). field (bitAt s) x 64) (sym p)
+      ∙ bytes-hold s (9 + 8 * h) 8 (halfOf r h)
+      (λ q c.
+      let a : 9 + 8 * h + q ≡ 9 + (8 * h + q) = omega arith in
+      let d : (8 * h + q) / 8 ≡ h = omega arith in
+      let m : (8 * h + q) % 8 ≡ q = omega arith in
+      ap (λ (x : ℕ). getD s x 0) a ∙ half-byte (8 * h + q) (omega arith) ∙ ap₂ (λ (x y : ℕ). getD (r .mask) x 0 / 2 ^ (8 * y) % 256) d m)
+      b
+
+pub record-back : RecordBack
+unfolding recordAt recordByte
+record-back r t six twelve words =
+    let indices : listFrom (indexAt (s r t)) 0 6 ≡ r .index = sym (listFrom-is (indexAt (s r t)) 0 6 (r .index) six (λ i h. sym (index-byte r t i h))) in
+    let halves : listFrom (halfAt (s r t)) 0 12 ≡ r .mask = sym (listFrom-is (halfAt (s r t)) 0 12 (r .mask) twelve (λ h l. sym (half r t h l (words h)))) in
+    let granted : positive (getD (s r t) 0 0) ≡ r .granted = ap positive (byte r t 0 (lit< tt)) ∙ positive-weight (r .granted) in
+    let acknowledge : positive (getD (s r t) 2 0) ≡ r .acknowledge = ap positive (byte r t 2 (lit< tt)) ∙ positive-weight (r .acknowledge) in
+    rw (indices, halves, granted, byte r t 1 (lit< tt), acknowledge) refl
