@@ -1,4 +1,4 @@
-"""Makes the stored inputs and outputs of the programs crates/vectors_*.
+"""Makes the stored inputs and outputs of the programs crates/vectors_*, and the output of v91.
 
 `python3 reference/vectors.py` says for each stored file whether it is the same as made here;
 `python3 reference/vectors.py --write` writes them.
@@ -9,6 +9,7 @@ from pathlib import Path
 
 import cases_cp
 import cases_frames
+from demo import demo_text
 from forms import answer
 from table1 import linear_of, octet_of
 
@@ -33,7 +34,7 @@ def pcm_lines():
 
 def files():
     """The stored files: {path under crates: text}."""
-    made = {"vectors_pcm/stdout": pcm_lines()}
+    made = {"vectors_pcm/stdout": pcm_lines(), "v91/stdout": demo_text()}
     for name, cases in (("vectors_cp", cases_cp.cases()), ("vectors_frames", cases_frames.cases())):
         made[f"{name}/stdin"] = hex_lines(cases)
         made[f"{name}/stdout"] = hex_lines(map(answer, cases))

@@ -76,7 +76,7 @@ fn help() {
   v91 send CPFILE LAW < data > octets  data bits to the line
   v91 receive CPFILE LAW < octets > data
   v91 linear LAW < octets > text       linear samples, one a line
-  v91 demo                             the bench record, sent and received
+  v91 demo                             an example: a CP written and read, 63 bits sent and received
 LAW is mu or a. A CP file has 37, 54, 71, 88, 105 or 122 bytes.
 The exit status is always 0: what could not be done is said on standard error.
 ",

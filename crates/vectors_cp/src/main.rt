@@ -26,25 +26,16 @@ fn answer_read(call: &[u8], reply: &mut [u8]) -> usize
     106
 }
 
-// Copies bytes, and returns how many they are.
-fn copy(from: &[u8], into: &mut [u8]) -> usize
-    requires { ⌜ length (now from) ≤ length (now into) ⌝ }
-    ensures { λ n. ⌜ n ≡ length (now (from .entry)) ⌝ }
-{
-    let mut i = 0;
-    while i < from.len() {
-        into[i] = from[i];
-        i += 1;
-    }
-    i
-}
-
-// Answers a call of the writer: record and buffer.
+// Answers a call of the writer: record and buffer; nothing where there is no room.
 fn answer_write(call: &[u8], reply: &mut [u8]) -> usize
-    requires { ⌜ (105 ≤ length (now call)) × (length (now call) ≤ length (now reply)) × (3 ≤ length (now reply)) ⌝ }
+    requires { ⌜ 105 ≤ length (now call) ⌝ }
     ensures { λ n. ⌜ n ≤ length (now (reply .entry)) ⌝ }
 {
-    let end = 3 + copy(&call[105..], &mut reply[3..]);
+    let end = call.len() - 102;
+    if reply.len() < end {
+        return 0;
+    }
+    bytes::copy(&call[105..call.len()], &mut reply[3..end]);
     let written = cp::write_cp(forms::record_from(call), &mut reply[3..end]);
     let outcome = written.outcome;
     put(reply, 0, answer::number_of(outcome));
@@ -53,9 +44,9 @@ fn answer_write(call: &[u8], reply: &mut [u8]) -> usize
     end
 }
 
-// Answers a call of either kind; nothing where the call is too short.
+// Answers a call of either kind; nothing where the call is too short or there is no room.
 fn answer_call(call: &[u8], reply: &mut [u8]) -> usize
-    requires { ⌜ (106 ≤ length (now reply)) × (length (now call) ≤ length (now reply)) ⌝ }
+    requires { ⌜ 106 ≤ length (now reply) ⌝ }
     ensures { λ n. ⌜ n ≤ length (now (reply .entry)) ⌝ }
 {
     if call.len() < 9 {
@@ -71,13 +62,11 @@ fn answer_call(call: &[u8], reply: &mut [u8]) -> usize
 }
 
 // Answers a call with a line, and returns whether that was written.
-fn answer_with_line(call: &[u8]) -> bool
-    requires { ⌜ length (now call) ≤ 512 ⌝ }
-{
+fn answer_with_line(call: &[u8]) -> bool {
     let mut text = [0u8; 1024];
     let mut reply = [0u8; 512];
     let made = answer_call(call, &mut reply);
-    lines::write_bytes(&reply[..made], &mut text)
+    lines::write_bytes(&reply[0..made], &mut text)
 }
 
 // Answers the next line, and returns whether there was one.
@@ -89,7 +78,7 @@ fn answer_next() -> bool {
         return false;
     }
     let n = line.length;
-    answer_with_line(&call[..n])
+    answer_with_line(&call[0..n])
 }
 
 // Answers line after line. A proved loop has to end, so this one counts down from a number that no run uses up.

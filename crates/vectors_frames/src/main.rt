@@ -99,17 +99,6 @@ fn answer_send(call: &[u8], reply: &mut [u8]) -> usize
     end
 }
 
-// Copies the first `count` bytes.
-fn copy(from: &[u8], count: usize, into: &mut [u8])
-    requires { ⌜ (count ≤ length (now from)) × (count ≤ length (now into)) ⌝ }
-{
-    let mut i = 0;
-    while i < count {
-        into[i] = from[i];
-        i += 1;
-    }
-}
-
 // Receives into buffers that are filled first.
 fn receive_into(setup: Setup, octets: &[u8], bytes: &mut [u8], marks: &mut [u8]) -> FramesDone {
     let cp = setup.cp;
@@ -133,7 +122,8 @@ fn answer_receive(call: &[u8], reply: &mut [u8], marks: &mut [u8]) -> usize
     if marks.len() < count {
         return 0;
     }
-    if reply.len() < end + count {
+    let after = end + count;
+    if reply.len() < after {
         return 0;
     }
     let done = receive_into(
@@ -143,8 +133,8 @@ fn answer_receive(call: &[u8], reply: &mut [u8], marks: &mut [u8]) -> usize
         &mut marks[0..count],
     );
     put_done(done, reply);
-    copy(marks, count, &mut reply[end..]);
-    end + count
+    bytes::copy(&marks[0..count], &mut reply[end..after]);
+    after
 }
 
 // Fills a buffer: sample i is 1000 * i + 7.

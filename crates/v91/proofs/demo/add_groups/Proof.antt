@@ -1,19 +1,23 @@
--- Turn i adds octet i. Assumes nothing.
+-- Turn i adds byte i. Assumes nothing.
 use native.Mathlib.Omega.{arith}
 use lib.ListN.{length}
+use borrow.Author.Needs.{needs}
 use Prim.Native.Nat.{_≤_, _-_}
 use mathlib.Core.Path.{_≡_}
-use Rattle.v91.proofs.demo.add_octets.Statement.{statement}
-use Rattle.v91.proofs.demo.add_octets.Tie as tie
+use Rattle.v91.proofs.demo.add_groups.Statement.{statement}
+use Rattle.v91.proofs.demo.add_groups.Tie as tie
 
 abbrev Inv-loop : tie.InvT-loop
-Inv-loop text₀ at octets end₀ i₀ text end i = (i ≤ length octets) × (length text ≡ length text₀)
+Inv-loop text₀ at bytes group end₀ i₀ text end i = (i ≤ length bytes) × (length text ≡ length text₀)
 
 abbrev μ-loop : tie.MeasureT-loop
-μ-loop text₀ at octets end₀ i₀ text end i = length octets - i
+μ-loop text₀ at bytes group end₀ i₀ text end i = length bytes - i
 
 loop-holds : tie.Need-loop-holds Inv-loop μ-loop
 loop-holds c = omega arith
+
+rem-add-gap : tie.Need-rem-add-gap Inv-loop μ-loop
+rem-add-gap c = search needs
 
 add-gap-requires : tie.Need-add-gap-requires Inv-loop μ-loop
 add-gap-requires c κs = tt
@@ -39,13 +43,14 @@ same-length c = omega arith
 returns : tie.Need-returns Inv-loop μ-loop
 returns c = tt
 
-pub add-octets-spec : {M : Type 1} → statement M
-add-octets-spec =
+pub add-groups-spec : {M : Type 1} → statement M
+add-groups-spec =
     tie.close
     (tie.spec
     Inv-loop
     μ-loop
     loop-holds
+    rem-add-gap
     add-gap-requires
     shared-slice-read-add-hex
     add-hex-requires
