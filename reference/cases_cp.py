@@ -4,10 +4,9 @@ from itertools import combinations
 
 import cp
 from forms import read_case, write_case
-from record import EMPTY, FULL_MASK, make, masks_of
+from record import EMPTY, EXAMPLE, FULL_MASK, make, masks_of
 from samples import Draw, a_mask, a_record, faulty_record, shrunk, with_index
 
-BENCH = make(0, 1, 0, [0] * 6, [63])
 ALL_FULL = make(1, 28, 1, range(6), [FULL_MASK] * 6)
 
 READER_NUMBERS = range(1, 12)
@@ -125,7 +124,7 @@ def faulty_by_count(draw, numbers, octets, g):
 
 def accepted_records(draw):
     """Records of all rates and lengths."""
-    yield from (EMPTY, BENCH, ALL_FULL)
+    yield from (EMPTY, EXAMPLE, ALL_FULL)
     for drn in range(29):
         yield a_record(draw, drn, drn % 6)
         yield a_record(draw, drn)
@@ -151,7 +150,7 @@ def accepted_readings(draw):
 def flips(draw):
     """One bit changed: each bit of the bench record's sequence, some bits of longer ones."""
     for n in range(296):
-        bits = cp.bits_of(BENCH) ^ 1 << n
+        bits = cp.bits_of(EXAMPLE) ^ 1 << n
         yield read_case(in_bytes(bits, 0), cp.length(0))
     for g in range(1, 6):
         record = a_record(draw, draw.between(1, 28), g)
@@ -182,18 +181,18 @@ def counts(draw):
     for count in (0, 1, 293, 294, 2**32, 2**61, 2**63, 2**64 - 1):
         yield read_case(b"", count)
     for count in (0, 16, 17, 288, 293, 294, 2**63, 2**64 - 1, 2**64 - 7):
-        yield read_case(plain(BENCH), count)
+        yield read_case(plain(EXAMPLE), count)
 
 
 def fields_at_fault(draw):
     """Single fields of a sequence: 4, 8, 9 and 10 by each way they can hold, with the CRC right."""
     for at in (cp.ONE_AT, *cp.ZEROS_AT):
-        yield read_case(in_bytes(sealed(body(BENCH) ^ 1 << at, 0), 0), cp.length(0))
+        yield read_case(in_bytes(sealed(body(EXAMPLE) ^ 1 << at, 0), 0), cp.length(0))
     for interval in range(6):
-        record = with_index(BENCH, interval, 6 + interval)
+        record = with_index(EXAMPLE, interval, 6 + interval)
         bits = sealed(body(record), 0)
         yield read_case(in_bytes(bits, 0), cp.length(0))
-    bits = sealed(body(with_index(BENCH, 2, 15)), 0)
+    bits = sealed(body(with_index(EXAMPLE, 2, 15)), 0)
     yield read_case(in_bytes(bits, 0), cp.length(0))
     for drn in (0, 1, 14, 27, 29, 30, 31):
         for granted in (0, 1):

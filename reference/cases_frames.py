@@ -6,11 +6,10 @@ from itertools import combinations
 from forms import linear_case, outcome, receive_case, send_case
 from frames import (FRESH, HISTORIES, MOST_FRAMES, State, data_bytes, interval_masks, points,
                     ucodes_for)
-from record import EMPTY, FULL_MASK, k_of, make, sizes_of
+from record import EMPTY, EXAMPLE, FULL_MASK, k_of, make, sizes_of
 from samples import Draw, a_record, a_state, faulty_record
 from table1 import A, MU, octet_of
 
-BENCH = make(0, 1, 0, [0] * 6, [63])
 SEVEN_UCODES = make(0, 2, 0, [0] * 6, [127])
 
 NUMBERS = (4, *range(9, 18))
@@ -254,21 +253,21 @@ def one_cut(draw, record, law, cut, reads):
 
 # Single calls
 
-def bench_calls():
+def example_calls():
     """The bench examples of document 01 that are calls, and the values of a second model."""
     zeros, ones = bytes(8), b"\xff" * 8
-    yield send_case(BENCH, MU, 1, FRESH, zeros[:3], 6)
-    yield send_case(BENCH, MU, 1, FRESH, ones[:3], 6)
-    yield send_case(BENCH, A, 1, FRESH, zeros[:3], 6)
-    yield send_case(BENCH, MU, 3, FRESH, ones, 18)
+    yield send_case(EXAMPLE, MU, 1, FRESH, zeros[:3], 6)
+    yield send_case(EXAMPLE, MU, 1, FRESH, ones[:3], 6)
+    yield send_case(EXAMPLE, A, 1, FRESH, zeros[:3], 6)
+    yield send_case(EXAMPLE, MU, 3, FRESH, ones, 18)
     for labels in ((5, 5, 5, 5, 5, 5), (1, 1, 4, 1, 1, 4), (2, 1, 4, 1, 1, 4)):
         frame = bytes(0xFF ^ 5 - label for label in labels)
-        yield receive_case(BENCH, MU, 1, FRESH, frame, 3, 1)
+        yield receive_case(EXAMPLE, MU, 1, FRESH, frame, 3, 1)
     strangers = bytes(0xFF ^ ucode for ucode in (0, 0, 6, 0, 6, 0))
-    yield receive_case(BENCH, MU, 1, FRESH, strangers, 3, 1)
+    yield receive_case(EXAMPLE, MU, 1, FRESH, strangers, 3, 1)
     for state in (State(0, 0), State(0, 1), State(1, 0)):
-        yield receive_case(BENCH, MU, 2, state, b"\x7a" * 12, 6, 2)
-    yield receive_case(BENCH, MU, 1, State(7, 0), b"\xff" * 6, 3, 1)
+        yield receive_case(EXAMPLE, MU, 2, state, b"\x7a" * 12, 6, 2)
+    yield receive_case(EXAMPLE, MU, 1, State(7, 0), b"\xff" * 6, 3, 1)
     yield receive_case(SEVEN_UCODES, MU, 1, State(1, 0), b"\x80" * 6, 3, 1)
 
 
@@ -314,7 +313,7 @@ def states(draw):
 
 def no_frames(draw):
     """Calls of no frames: with drn 0, with empty buffers and with others."""
-    for record in (EMPTY, BENCH, a_record(draw, 0), a_record(draw, 28, granted=1)):
+    for record in (EMPTY, EXAMPLE, a_record(draw, 0), a_record(draw, 28, granted=1)):
         for length in (0, 5):
             state = a_state(draw)
             yield send_case(record, MU, 0, state, draw.octets(length), length)
@@ -338,7 +337,7 @@ def linear_cases(draw):
 def cases():
     """The stored cases in order."""
     draw = Draw(9105)
-    found = list(bench_calls())
+    found = list(example_calls())
     for group in (marked_frames, number_edges, states, no_frames, faulty_cases, runs, long_calls,
                   linear_cases):
         found += group(draw)

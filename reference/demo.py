@@ -1,10 +1,8 @@
-"""What `v91 demo` prints: one record described, its CP, and 63 one bits sent and received."""
+"""What `v91 demo` prints: the CP of the example, described, and 63 one bits sent and received."""
 
 from cp import write_cp
 from frames import FRESH, frame_bits, receive, send
-from record import k_of, make, mask_of, sizes_of
-
-EXAMPLE = make(0, 1, 0, [0] * 6, [0x3F])
+from record import EXAMPLE, k_of, mask_of, sizes_of
 
 
 def description(record, bit_count):

@@ -23,6 +23,10 @@ def make(granted, drn, acknowledge, indices, masks):
     return Record(granted, drn, acknowledge, tuple(indices), tuple(halves))
 
 
+# The record of the examples in document 01: Ucodes 0 to 5 in every interval, drn 1.
+EXAMPLE = make(0, 1, 0, [0] * 6, [0x3F])
+
+
 def mask_of(record, m):
     """Mask m as one number: bit u stands for Ucode u."""
     return record.halves[2 * m] | record.halves[2 * m + 1] << 64

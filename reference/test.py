@@ -15,11 +15,9 @@ import frames
 import vectors
 from frames import FRESH, State
 from linear import linear
-from record import EMPTY, FULL_MASK, k_of, make
+from record import EMPTY, EXAMPLE, FULL_MASK, k_of, make
 from samples import Draw, a_record, a_state
 from table1 import A, MU, linear_of, octet_of, rows, ucode_of
-
-BENCH = cases_cp.BENCH
 
 
 def check(holds, what):
@@ -80,12 +78,12 @@ def received(record, law, state, octets):
 
 
 def of_labels(*labels):
-    """Positive µ-law octets of labels under the bench record."""
+    """Positive µ-law octets of labels under the record of the examples."""
     return bytes(0xFF ^ 5 - label for label in labels)
 
 
 def number_of(octets):
-    """R of a frame under the bench record."""
+    """R of a frame under the record of the examples."""
     return frames.number_for([63] * 6, [ucode_of(MU, octet) for octet in octets])
 
 
@@ -94,33 +92,33 @@ def ones_at(*places):
     return sum(1 << place for place in places)
 
 
-def bench():
+def examples():
     """B1 to B12."""
     zeros, ones = bytes(3), b"\xff" * 3
-    same(sent(BENCH, MU, 1, FRESH, zeros)[0].hex(), "7a" * 6, "B1")
-    octets, state = sent(BENCH, MU, 1, FRESH, ones)
+    same(sent(EXAMPLE, MU, 1, FRESH, zeros)[0].hex(), "7a" * 6, "B1")
+    octets, state = sent(EXAMPLE, MU, 1, FRESH, ones)
     same((octets.hex(), state), ("fd7eff7afd7a", State(2097144, 0)), "B2")
     same(number_of(octets), 4095, "B2's R")
     same(number_of(b"\xff" * 6), 46655, "B3's R")
-    same(received(BENCH, MU, FRESH, b"\xff" * 6)[0], [7], "B3")
+    same(received(EXAMPLE, MU, FRESH, b"\xff" * 6)[0], [7], "B3")
     good, bad = of_labels(1, 1, 4, 1, 1, 4), of_labels(2, 1, 4, 1, 1, 4)
     same((number_of(good), number_of(bad)), (32767, 32768), "B4's R")
-    same(received(BENCH, MU, FRESH, good + bad)[0], [0, 7], "B4")
+    same(received(EXAMPLE, MU, FRESH, good + bad)[0], [0, 7], "B4")
     strangers = bytes(0xFF ^ u for u in (0, 0, 6, 0, 6, 0))
-    same(received(BENCH, MU, FRESH, strangers)[0], [3], "B5")
-    line = sent(BENCH, MU, 2, FRESH, bytes(6))[0]
-    same(received(BENCH, MU, FRESH, line)[:2], ([0, 0], 0), "two frames of zeros")
-    same(received(BENCH, MU, State(0, 1), line)[:2], ([0, 0], ones_at(0, 18, 23)), "B6")
-    same(received(BENCH, MU, State(1, 0), line)[:2], ([0, 0], ones_at(17, 22)), "B7")
-    same(sent(BENCH, A, 1, FRESH, zeros)[0].hex(), "50" * 6, "B8")
-    bench_sizes()
+    same(received(EXAMPLE, MU, FRESH, strangers)[0], [3], "B5")
+    line = sent(EXAMPLE, MU, 2, FRESH, bytes(6))[0]
+    same(received(EXAMPLE, MU, FRESH, line)[:2], ([0, 0], 0), "two frames of zeros")
+    same(received(EXAMPLE, MU, State(0, 1), line)[:2], ([0, 0], ones_at(0, 18, 23)), "B6")
+    same(received(EXAMPLE, MU, State(1, 0), line)[:2], ([0, 0], ones_at(17, 22)), "B7")
+    same(sent(EXAMPLE, A, 1, FRESH, zeros)[0].hex(), "50" * 6, "B8")
+    example_sizes()
     same([octet_of(law, sign, 64) for law in (MU, A) for sign in (1, 0)],
          [0xBF, 0x3F, 0x95, 0x15], "B11")
-    bench_length()
+    example_length()
     return "B1 to B12"
 
 
-def bench_sizes():
+def example_sizes():
     """B9 and B10, for the writer, the reader, the sender and the receiver."""
     lost = FULL_MASK ^ 1 << 77
     for record, wanted in ((make(0, 1, 0, [0, 0, 0, 0, 0, 1], [63, 31]), 0),
@@ -137,7 +135,7 @@ def bench_sizes():
     same(set(received(full, A, FRESH, draw.octets(6 * 500))[0]), {0}, "B10's marks")
 
 
-def bench_length():
+def example_length():
     """B12."""
     record = make(0, 1, 0, [0, 0, 0, 0, 0, 1], [63, 31])
     refusal, count, octets = cp.write_cp(record, bytes(54))
@@ -152,15 +150,15 @@ def bench_length():
 def values():
     """CP sequences, octets and states to check by."""
     same(cp.crc(b"123456789"), 0x6F91, "CRC check value")
-    same(cp.write_cp(BENCH, bytes(37)),
-         (0, 294, bytes.fromhex("ffff19" + "00" * 14 + "7e" + "00" * 16 + "e0d000")), "bench CP")
+    same(cp.write_cp(EXAMPLE, bytes(37)),
+         (0, 294, bytes.fromhex("ffff19" + "00" * 14 + "7e" + "00" * 16 + "e0d000")), "CP of the example")
     same(cp.write_cp(EMPTY, bytes(37)),
          (0, 294, bytes.fromhex("ffff09" + "00" * 31 + "64c701")), "CP of zeros")
     same(cp.bits_of(cases_cp.ALL_FULL) >> 273 + 680 & 0xFFFF, 0x9A29, "CRC of full masks")
-    octets, state = sent(BENCH, MU, 3, FRESH, b"\xff" * 8)
+    octets, state = sent(EXAMPLE, MU, 3, FRESH, b"\xff" * 8)
     same(octets.hex(), "fd7eff7afd7a7b7bfc7cfa7a7d7a7d7eff7d", "63 ones")
     same(state, State(130575, 0), "state after 63 ones")
-    same(received(BENCH, MU, State(7, 0), b"\xff" * 6), ([7], 0, State(6291456, 1)), "mark 7")
+    same(received(EXAMPLE, MU, State(7, 0), b"\xff" * 6), ([7], 0, State(6291456, 1)), "mark 7")
     same(received(cases_frames.SEVEN_UCODES, MU, State(1, 0), b"\x80" * 6),
          ([1], 0, State(4194304, 1)), "mark 1 at D = 22")
     return "9 values"
@@ -582,7 +580,7 @@ def wrong_codecs():
     return f"{len(found)} stopped"
 
 
-GROUPS = (table_1, bench, values, steps, cp_round_trips, demand_3, stored_answers, stored_refusals,
+GROUPS = (table_1, examples, values, steps, cp_round_trips, demand_3, stored_answers, stored_refusals,
           stored_coverage, wrong_codecs)
 
 
