@@ -50,13 +50,8 @@ fn add_interval(text: &mut [u8], at: usize, r: Record, i: usize) -> usize
     let at = add(text, at, b": mask ");
     let at = add_decimal(text, at, m as u64);
     if m < 6 {
-        let at = add_named(
-            text,
-            at,
-            b", M = ",
-            constellation::size_of(mask_at(r, m as usize)),
-        );
-        return at;
+        let size = constellation::size_of(mask_at(r, m as usize));
+        return add_named(text, at, b", M = ", size);
     }
     add(text, at, b"\n")
 }
