@@ -23,7 +23,9 @@ past1 c m e =
 
 past2 : (c : tie.Else2) (m : ℕ) → m ≡ first (drop 2 (T (c .before .before .before))) → m ≡ first (T (c .before .before .before))
 unfolding shapeTests countTooSmall
-past2 c m e = past1 (c .before) m (first-skip m _ _ _ (le-ltb _ _ (c .if2 .left)) e)
+past2 c m e =
+    let l : 294 ≤ c .before .before .before .args .bit-count = omega arith in
+    past1 (c .before) m (first-skip m _ _ _ (le-ltb _ _ l) e)
 
 add-if1 : tie.Need-add-if1
 add-if1 c = omega arith
@@ -39,7 +41,9 @@ returns c =
 
 returns-2 : tie.Need-returns-2
 unfolding shapeTests countTooSmall
-returns-2 c = past1 (c .before) 2 (first-hit 2 _ _ (lt-ltb _ _ (c .if2 .taken)))
+returns-2 c =
+    let l : c .before .before .before .args .bit-count < 294 = omega arith in
+    past1 (c .before) 2 (first-hit 2 _ _ (lt-ltb _ _ l))
 
 sync-broken-requires : tie.Need-sync-broken-requires
 sync-broken-requires c κs = tt
