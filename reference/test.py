@@ -455,6 +455,35 @@ def last_byte_kept(record, law, count, state, octets, bits, marks):
     return refusal, state, heard, judged
 
 
+def every_frame_marked(record, law, count, state, octets, bits, marks):
+    """Every frame gets mark 7."""
+    refusal, state, heard, judged = RIGHT["receive"](record, law, count, state, octets, bits, marks)
+    return refusal, state, heard, judged if refusal else b"\x07" * count + judged[count:]
+
+
+def nothing_written(record, law, count, state, octets, bits, marks):
+    """The state goes on and the buffers stay."""
+    refusal, state, _, _ = RIGHT["receive"](record, law, count, state, octets, bits, marks)
+    return refusal, state, bytes(bits), bytes(marks)
+
+
+def first_frame_alone(record, law, count, state, octets, bits, marks):
+    """The first frame is received; the others give zeros and mark 0."""
+    refusal, state, heard, judged = RIGHT["receive"](record, law, count, state, octets, bits, marks)
+    if refusal or not count:
+        return refusal, state, heard, judged
+    touched = frames.data_bytes(record, count)
+    first = int.from_bytes(heard[:touched], "little") % 2 ** frames.frame_bits(record)
+    heard = first.to_bytes(touched, "little") + heard[touched:]
+    return refusal, state, heard, judged[:1] + bytes(count - 1) + judged[count:]
+
+
+def made_up_mark(record, law, state, octets):
+    """Mark 8 in place of 7."""
+    mark, *rest = RIGHT["receive_frame"](record, law, state, octets)
+    return 8 if mark == 7 else mark, *rest
+
+
 def bytes_rounded_down(record, count):
     """The whole bytes among the data bits."""
     return count * frames.frame_bits(record) // 8
@@ -553,6 +582,19 @@ WRONG_CODECS = {
     "CRC complemented": {"cp.crc": crc_complemented},
     "acknowledge at bit 25": {"cp.ACKNOWLEDGE_AT": 25},
     "unnamed masks lost": {"cp.record_in": unnamed_masks_lost},
+    "every frame marked": {"frames.receive": every_frame_marked},
+    "the same octets always": {"frames.send_frame": lambda record, law, state, data:
+                               (b"\x7a" * 6, RIGHT["send_frame"](record, law, state, data)[1])},
+    "nothing written": {"frames.receive": nothing_written},
+    "first frame alone": {"frames.receive": first_frame_alone},
+    "made-up mark": {"frames.receive_frame": made_up_mark},
+    "2 before looking": {"cp.read_cp": lambda octets, bit_count: (2, EMPTY)},
+    "7 before looking": {"cp.read_cp": lambda octets, bit_count: (7, EMPTY)},
+    "writer always declines": {"cp.write_cp": lambda record, buffer: (17, 0, bytes(buffer))},
+    "sender always declines": {"frames.send": lambda record, law, count, state, data, octets:
+                               (14, state, bytes(octets))},
+    "receiver always declines": {"frames.receive": lambda record, law, count, state, octets, bits, marks:
+                                 (14, state, bytes(bits), bytes(marks))},
 }
 
 
