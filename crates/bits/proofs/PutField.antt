@@ -8,13 +8,13 @@ use native.Mathlib.Decide.{decLt, ℕ-discrete}
 use native.Mathlib.Omega.{arith}
 use borrow.Author.Tests.{lt-ltb, le-ltb, le-leb, lt-leb, eq-eqb, ne-eqb}
 use lib.Bits.{bitAnd, bitOr}
-use lib.Dec.{T, eqb, eqb→eq, lit<}
-use lib.ListN.{length, getD, set, length-set, List·getD-eq-default}
+use lib.Dec.{T, eqb, eqb→eq}
+use lib.ListN.{length, getD, set, length-set}
 use lib.Seq.{getD-set-same, getD-set-other, take-all}
 use Rattle.standard.specs.Bits.{weight, odd, bit, bitAt, field, bytesOf}
 use Rattle.standard.specs.Cp.{put, covers}
-use Rattle.standard.proofs.Lists.{getD-list, listFrom-is, every, every-at, and-left, and-right}
-use Rattle.standard.proofs.Bits.{odd-weight, field-lt, field-ext, field-is, length-bytesOf, bytesOf-ext, bitAt-bytes, bytes-back}
+use Rattle.standard.proofs.Lists.{listFrom-is, every, every-at, and-left, and-right}
+use Rattle.standard.proofs.Bits.{odd-weight, field-ext, field-is, length-bytesOf, bytesOf-ext, bitAt-bytes, bytes-back}
 use Rattle.bits.specs.PutField.{byteWith, bitWith, putField}
 use Rattle.standard.proofs.Words.{odd-test}
 
@@ -76,14 +76,6 @@ module _ (s : List ℕ) (p k v : ℕ) where
   pub bitAt-putField : (n : ℕ) → n < 8 * length s → bitAt (putField s p k v) n ≡ bitWith s p k v n
   unfolding putField
   bitAt-putField n h = bitAt-own (length s) (bitWith s p k v) n h
-
-  pub putField-lt : (i : ℕ) → getD (putField s p k v) i 0 < 256
-  unfolding putField bytesOf
-  putField-lt i = go (decLt i (length s))
-    where
-      go : Dec (i < length s) → getD (putField s p k v) i 0 < 256
-      go (yes h) = rw (getD-list (λ j. field (bitWith s p k v) (8 * j) 8) 0 (length s) i h) (field-lt (bitWith s p k v) (8 * i) 8)
-      go (no h) = rw (List·getD-eq-default (putField s p k v) 0 {n = i} (omega (arith, length-putField))) (lit< tt)
 
 -- what the definition says
 opened : (s : List ℕ) (p k v : ℕ) → putField s p k v ≡ bytesOf (length s) (bitWith s p k v)

@@ -1,18 +1,17 @@
 -- What was put into bytes is what is read from them. Assumes nothing.
 use mathlib.Core.Path.{_≡_, refl, sym, ap, ap₂, _∙_}
-use Prim.Native.Nat.{ℕ, _+_, _-_, _*_, _/_, _%_, _^_, _≤_, _<_}
-use mathlib.Core.Bool.{Bool, true, false, cond}
+use Prim.Native.Nat.{ℕ, _+_, _-_, _*_, _/_, _%_, _^_, _<_}
+use mathlib.Core.Bool.{Bool, true, false}
 use mathlib.Core.List.{List, _++_}
 use native.Mathlib.Nat.{zero-add}
 use native.Mathlib.Omega.{arith}
 use borrow.Author.Tests.{lt-ltb, le-ltb}
-use lib.Dec.{lit<, ltb}
-use lib.ListN.{length, getD, List·getD-append}
+use lib.Dec.{lit<}
+use lib.ListN.{getD, List·getD-append}
 use Rattle.standard.specs.Lists.{listFrom}
 use Rattle.standard.specs.Bits.{weight, positive, bit, bitAt, field}
 use Rattle.standard.specs.Record.{indexOf, halfOf}
 use Rattle.standard.specs.declared.Record.{Record}
-use Rattle.standard.specs.declared.LineState.{LineState}
 use Rattle.standard.proofs.Lists.{length-listFrom, getD-list, listFrom-is}
 use Rattle.standard.proofs.Bits.{field-bit, field-is, field-number}
 use Rattle.forms.specs.RecordBytes.{halfByte, recordByte, recordBytes, indexAt, halfAt, recordAt}

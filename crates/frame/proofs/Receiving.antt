@@ -27,10 +27,9 @@ use Rattle.standard.specs.declared.Record.{Record}
 use Rattle.standard.proofs.Lists.{length-listFrom}
 use Rattle.standard.proofs.First.{first-left, none-first, first-append}
 use Rattle.standard.proofs.Bits.{numberOf-lt, bits-back}
-use Rattle.standard.proofs.Scrambler.{pushAll-lt}
 use Rattle.standard.proofs.Constellation.{sizeOf-le}
 use Rattle.standard.proofs.Signs.{length-signBits}
-use Rattle.standard.proofs.Frame.{length-sizes, size-at, length-heardBits, length-receiveFrame}
+use Rattle.standard.proofs.Frame.{length-sizes, size-at, length-heardBits}
 use Rattle.constellation.specs.declared.Mask.{Mask}
 use Rattle.constellation.specs.Mask.{has, maskOf}
 use Rattle.standard.proofs.Words.{above-six, number-append, bits-number, zero-number}
@@ -202,11 +201,3 @@ module _ (r : Record) (l : Law) (os : List ℕ) where
           → record { history = h; sign = s } ≡ receiveNext r l st os
       unfolding receiveNext
       heard-next h s eh es = ap₂ (λ (x : ℕ) (y : Bool). record { history = x; sign = y }) eh es
-
--- the history that a frame leaves is one, and its data bits are D
-pub received-history : (r : Record) (l : Law) (st : LineState) (os : List ℕ) → st .history < 2 ^ 23 → receiveNext r l st os .history < 2 ^ 23
-unfolding receiveNext
-received-history r l st os h = pushAll-lt (st .history) (heardBits r l (st .sign) os) h
-
-pub received-lt : (r : Record) (l : Law) (st : LineState) (os : List ℕ) → numberOf (receiveFrame r l st os) < 2 ^ D r
-received-lt r l st os = rw length-receiveFrame at (numberOf-lt (receiveFrame r l st os))

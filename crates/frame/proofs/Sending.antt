@@ -20,7 +20,7 @@ use Rattle.standard.specs.declared.LineState.{LineState}
 use Rattle.standard.specs.declared.Record.{Record}
 use Rattle.standard.proofs.Lists.{listFrom-ext}
 use Rattle.standard.proofs.Bits.{numberOf-lt, length-bitsOf}
-use Rattle.standard.proofs.Scrambler.{length-scramble, pushAll-lt}
+use Rattle.standard.proofs.Scrambler.{length-scramble}
 use Rattle.standard.proofs.Signs.{length-signsOf}
 use Rattle.constellation.specs.declared.Mask.{Mask}
 use Rattle.constellation.specs.Mask.{has, maskOf}
@@ -81,8 +81,3 @@ module _ (r : Record) (l : Law) (st : LineState) (ds : List Bool) (fit : length 
     unfolding sendNext lineBits
     sent-state h s eh es =
         ap₂ (λ (x : ℕ) (y : Bool). record { history = x; sign = y }) eh (es ∙ sign-is r (scramble (st .history) ds) long w ew (st .sign) n en 5 (omega arith))
-
--- the history that a frame leaves is one
-pub sent-history : (st : LineState) (ds : List Bool) → st .history < 2 ^ 23 → sendNext st ds .history < 2 ^ 23
-unfolding sendNext
-sent-history st ds h = pushAll-lt (st .history) (lineBits st ds) h

@@ -2,7 +2,7 @@
 // `00`, the bit count in eight bytes and the CP, which `refusal, record` answers; or `01`, a record and a buffer, which
 // `refusal, bit count in two bytes, buffer afterwards` answers. Numbers have their low byte first, and a record is 105 bytes.
 ghost use mathlib.Core.Path.{_≡_};
-ghost use Prim.Native.Nat.{_+_, _<_, _≤_};
+ghost use Prim.Native.Nat.{_<_, _≤_};
 ghost use lib.ListN.{length, set};
 
 // Puts one byte.
