@@ -5,7 +5,7 @@
 LIBRARY is a shared object with the functions of v91.h under PREFIX, `v91_` or `plain_`. Compared are
 the answer and every byte of every buffer afterwards, with canary bytes before and behind it. The test
 stops at the first difference with a line that shows the call; --show prints every call before it is
-made. The exit status is 0 if all was the same and every refusal and mark came up, else 1.
+made. The exit status is 0 if all was the same and every refusal, interval and mark came up, else 1.
 """
 
 import argparse
@@ -27,7 +27,7 @@ import forms
 import frames
 import linear
 import record
-from samples import Draw, a_record, a_state, faulty_record
+from samples import Draw, a_record, a_sparse_record, a_state, faulty_record
 
 RECORD_BYTES, STATE_BYTES = 105, 5
 
@@ -43,10 +43,10 @@ KINDS = list(ENTRIES)  # in the order of forms.py
 NUMBERS = {"a_law": ctypes.c_bool, "frames": ctypes.c_size_t, "bit_count": ctypes.c_size_t}
 
 REFUSALS = {
-    "read_cp": {*range(1, 12), 17},
-    "write_cp": {4, *range(9, 13), 16, 17},
-    "send": {4, *range(9, 18)},
-    "receive": {4, *range(9, 18)},
+    "read_cp": {*range(1, 12), 17, 25},
+    "write_cp": {4, *range(9, 13), 16, 17, 25},
+    "send": {4, *range(9, 18), 25},
+    "receive": {4, *range(9, 18), 25},
     "linear": {17},
 }
 PAIRS = {
@@ -63,6 +63,23 @@ FAULTY = {  # how the reference makes a case in which given refusals hold, and w
     "receive": (cases_frames.faulty_receive, cases_frames.NUMBERS),
 }
 ENOUGH = 20_000  # from so many calls on, all of these have to come up
+
+
+# Answers in C
+
+def answer_to(refusal):
+    """The answer of a call that is declined, and 0 for one that is not."""
+    return refusal.number + (refusal.value << 24) if refusal else 0
+
+
+def is_done(answer):
+    """Whether a call was done: 0 or a count, 294 to 972; 25 with an interval is beyond 2^24."""
+    return answer == 0 or 294 <= answer < 1 << 24
+
+
+def said(answer):
+    """An answer in words; 25 with its interval."""
+    return f"{answer & 0xFF} + ({answer >> 24} << 24)" if answer >> 24 else str(answer)
 
 
 # What the reference says: (answer, buffers that change)
@@ -88,21 +105,25 @@ def want_read_cp(sequence, bit_count, form):
     if len(form) < RECORD_BYTES:
         return 17, {}
     refusal, rec = cp.read_cp(sequence, bit_count)
-    return refusal, {} if refusal else {"record": record.pack(rec) + form[RECORD_BYTES:]}
+    if refusal:
+        return answer_to(refusal), {}
+    return 0, {"record": record.pack(rec) + form[RECORD_BYTES:]}
 
 
 def want_write_cp(form, buffer):
     if len(form) < RECORD_BYTES:
         return 16, {}
     refusal, count, after = cp.write_cp(record_from(form), buffer)
-    return refusal or count, {"cp": after}
+    return answer_to(refusal) or count, {"cp": after}
 
 
 def want_send(form, a_law, count, bits, octets, state):
     if len(form) < RECORD_BYTES or len(state) < STATE_BYTES:
         return 16, {}
     refusal, left, after = frames.send(record_from(form), a_law, count, state_from(state), bits, octets)
-    return refusal, {} if refusal else {"octets": after, "state": state_left(left, state)}
+    if refusal:
+        return answer_to(refusal), {}
+    return 0, {"octets": after, "state": state_left(left, state)}
 
 
 def want_receive(form, a_law, count, octets, bits, marks, state):
@@ -111,14 +132,14 @@ def want_receive(form, a_law, count, octets, bits, marks, state):
     refusal, left, heard, judged = frames.receive(record_from(form), a_law, count, state_from(state),
                                                   octets, bits, marks)
     if refusal:
-        return refusal, {}
+        return answer_to(refusal), {}
     return 0, {"bits": heard, "marks": judged, "state": state_left(left, state)}
 
 
 def want_linear(a_law, octets, samples):
     room = len(samples) // 4
     refusal, after = linear.linear(a_law, octets, struct.unpack(f"<{room}i", samples))
-    return refusal, {"samples": struct.pack(f"<{room}i", *after)}
+    return answer_to(refusal), {"samples": struct.pack(f"<{room}i", *after)}
 
 
 WANT = {"read_cp": want_read_cp, "write_cp": want_write_cp, "send": want_send,
@@ -199,6 +220,7 @@ class Test:
         self.codec, self.draw, self.calls, self.show = codec, Draw(seed), calls, show
         self.made = 0
         self.counts = {entry: Counter() for entry in ENTRIES}
+        self.intervals = {entry: Counter() for entry in FAULTY}
         self.marks = Counter()
         self.held = {entry: set() for entry in ENTRIES}
         self.sets = [(entry, {number}) for entry in FAULTY for number in FAULTY[entry][1]]
@@ -218,14 +240,16 @@ class Test:
         answer, changed = WANT[entry](*values)
         found, there = self.codec.call(entry, values, offset, null)
         after = {name: changed.get(name, value) for name, value in zip(ENTRIES[entry], values)}
-        faults = [] if found == answer else [f"answer {found}, wanted {answer}"]
+        faults = [] if found == answer else [f"answer {said(found)}, wanted {said(answer)}"]
         for name, now in there.items():
             wanted = Memory.CANARY + after[name] + Memory.CANARY
             if now != wanted:
                 faults.append(f"{name} afterwards, canaries included, {now.hex()}, wanted {wanted.hex()}")
         if faults:
             raise Difference(f"{self.line(entry, values, offset, null)}: {'; '.join(faults)}")
-        self.counts[entry]["done" if answer == 0 or answer >= 294 else answer] += 1
+        self.counts[entry]["done" if is_done(answer) else answer & 0xFF] += 1
+        if not is_done(answer) and answer & 0xFF == 25:
+            self.intervals[entry][answer >> 24] += 1
         if entry == "receive" and answer == 0:
             self.marks.update(after["marks"][:values[2]])
         return answer, after
@@ -378,13 +402,15 @@ class Test:
 
     def fault(self, case):
         """A case of the reference in which refusals hold."""
-        self.held[KINDS[case[0]]].update(combinations(forms.held(case), 2))
+        numbers = [refusal.number for refusal in forms.held(case)]
+        self.held[KINDS[case[0]]].update(combinations(numbers, 2))
         self.case(case)
 
     def bad_buffers(self):
         """Short record and state buffers together with other refusals and without."""
         draw = self.draw
-        rec = faulty_record(draw, {draw.pick((4, 9, 10, 11, 12, 13))}) if draw.below(2) else self.any_record()
+        numbers = {draw.pick((4, 9, 10, 25, 11, 12, 13))}
+        rec = faulty_record(draw, numbers) if draw.below(2) else self.any_record()
         short = [record.pack(rec)[:draw.pick((0, 1, 50, 104))], bytes(draw.pick((0, 1, 4)))]
         whole = [record.pack(rec), frames.pack_state(a_state(draw))]
         for forms_lent in ((short[0], whole[1]), (whole[0], short[1]), short):
@@ -414,7 +440,9 @@ class Test:
         """Some cases of the reference's own lists."""
         groups = (cases_frames.states, cases_frames.no_frames, cases_frames.number_edges,
                   cases_cp.counts, cases_cp.fields_at_fault, cases_cp.short_buffers,
-                  cases_cp.stray_masks, cases_cp.record_fields_at_fault)
+                  cases_cp.stray_masks, cases_cp.record_fields_at_fault,
+                  cases_cp.sparse_readings, cases_cp.sparse_writings,
+                  cases_frames.sparse_calls, cases_frames.sparse_faults)
         for case in self.draw.pick(groups)(self.draw):
             if self.draw.below(4) == 0:
                 self.case(case)
@@ -427,6 +455,16 @@ class Test:
                 sequence = cases_cp.plain(rec)
                 self.call("read_cp", sequence, cases_cp.length_of(rec), self.cut(self.some(RECORD_BYTES)))
 
+    def sparse(self):
+        """Records with empty masks through all four entries."""
+        for _ in range(4):
+            rec, law, count = a_sparse_record(self.draw), self.draw.below(2), self.count()
+            state, form = a_state(self.draw), self.cut(self.some(RECORD_BYTES))
+            self.call("write_cp", self.record(rec), self.some(self.length(122)))
+            self.call("read_cp", cases_cp.plain(rec), cases_cp.length_of(rec), form)
+            self.send(rec, law, count, state)
+            self.receive(rec, law, count, self.some(6 * min(count, 1025)), state)
+
     def samples(self):
         """Linear samples."""
         for _ in range(2):
@@ -437,7 +475,8 @@ class Test:
     def run(self):
         """All calls."""
         often = [self.a_run] * 40 + [self.marked] * 6 + [self.refused] * 6 + [self.flipped] * 6
-        rarely = [self.samples] * 6 + [self.bad_buffers, self.edges] * 2 + [self.listed]
+        rarely = [self.bad_buffers, self.edges, self.sparse] * 2 + [self.listed]
+        rarely += [self.samples] * 6
         try:
             self.longest()
             while True:
@@ -457,6 +496,9 @@ class Test:
                   f" {pairs} of {len(PAIRS[entry])} pairs of refusals")
             lacking += [f"{entry} {answer}" for answer in ("done", *REFUSALS[entry]) if not counts[answer]]
             lacking += [f"{entry} {pair}" for pair in PAIRS[entry] if pair not in self.held[entry]]
+        for entry, counts in self.intervals.items():
+            print(f"{entry}, intervals with 25:", ", ".join(f"{i}: {counts[i]}" for i in range(6)))
+            lacking += [f"{entry} 25 with {i}" for i in range(6) if not counts[i]]
         print("marks:", ", ".join(f"{mark}: {self.marks[mark]}" for mark in range(8)))
         lacking += [f"mark {mark}" for mark in range(8) if not self.marks[mark]]
         if lacking and self.made >= ENOUGH:

@@ -15,7 +15,8 @@
  * length 0 it may be null) and the buffers do not overlap. A refused call changes no buffer.
  * Elements beyond those named below stay as they are.
  *
- * Refusals; the first that applies is answered:
+ * Refusals, in the order in which they are looked at; the first that applies is answered. Its number is
+ * answer & 0xff; the rest of the answer is 0, save with 25:
  *    1  the bit count exceeds 8 x the bytes lent
  *    2  the bit count is below 294
  *    3  one of bits 0 to 16 is 0
@@ -26,6 +27,8 @@
  *    8  bit 19 is 0, or one of 30 to 32 or 128 is 1
  *    9  drn exceeds 28
  *   10  granted is 1 and drn is not 28
+ *   25  drn is 1 to 28 and an interval's mask is empty; the answer is 25 + (interval << 24) for the
+ *       lowest such interval, 0 to 5
  *   11  drn is 1 to 28 and the product of the six mask sizes is below 2^K
  *   12  a mask above the largest index is not empty
  *   13  there are frames and drn is 0
@@ -48,28 +51,32 @@
 #define V91_CP_BYTES 122     /* the longest CP */
 #define V91_FRAMES 1024      /* the most frames of a call */
 
+/* The number of an answer that is a refusal, and the interval of one with the number 25. */
+#define V91_NUMBER(answer) ((answer) & 0xff)
+#define V91_INTERVAL(answer) ((answer) >> 24)
+
 #ifdef __cplusplus
 extern "C" {
 #endif
 
-/* Reads the CP of bit_count bits into the record. Answers 0 or a refusal, 1 to 11 or 17. */
+/* Reads the CP of bit_count bits into the record. Answers 0 or a refusal, 1 to 11, 17 or 25. */
 uint32_t v91_read_cp(const uint8_t *cp, size_t cp_len, size_t bit_count,
                      uint8_t *record, size_t record_len);
 
-/* Writes the record's CP, 37 to 122 bytes. Answers its bit count, which is 294 or more, or a refusal:
-   4, 9 to 12, 16 or 17. */
+/* Writes the record's CP, 37 to 122 bytes. Answers its bit count, which is 294 to 972, or a refusal:
+   4, 9 to 12, 16, 17 or 25. */
 uint32_t v91_write_cp(const uint8_t *record, size_t record_len, uint8_t *cp, size_t cp_len);
 
-/* Sends frames x (drn + 20) data bits as 6 x frames octets. Answers 0 or a refusal, 4 or 9 to 17.
-   After 0 the state is the one left, also where there are no frames. */
+/* Sends frames x (drn + 20) data bits as 6 x frames octets. Answers 0 or a refusal, 4, 9 to 17
+   or 25. After 0 the state is the one left, also where there are no frames. */
 uint32_t v91_send(const uint8_t *record, size_t record_len, bool a_law, size_t frames,
                   const uint8_t *bits, size_t bits_len, uint8_t *octets, size_t octets_len,
                   uint8_t *state, size_t state_len);
 
 /* Receives 6 x frames octets as frames x (drn + 20) data bits, with zeros up to the end of the last byte,
-   and one mark for each frame. Answers 0 or a refusal, 4 or 9 to 17. After 0 the state is the one left.
-   Mark 0: a good frame. Mark 1 to 6: the first interval whose Ucode is not in its mask. Mark 7: the number
-   is 2^K or more. The bits of a marked frame are zeros. */
+   and one mark for each frame. Answers 0 or a refusal, 4, 9 to 17 or 25. After 0 the state is the one
+   left. Mark 0: a good frame. Mark 1 to 6: the first interval whose Ucode is not in its mask. Mark 7: the
+   number is 2^K or more. The bits of a marked frame are zeros. */
 uint32_t v91_receive(const uint8_t *record, size_t record_len, bool a_law, size_t frames,
                      const uint8_t *octets, size_t octets_len, uint8_t *bits, size_t bits_len,
                      uint8_t *marks, size_t marks_len, uint8_t *state, size_t state_len);

@@ -5,23 +5,32 @@ from itertools import combinations
 import cp
 from forms import read_case, write_case
 from record import EMPTY, EXAMPLE, FULL_MASK, make, masks_of
-from samples import Draw, a_mask, a_record, faulty_record, shrunk, with_index
+from refusals import of_01
+from samples import (Draw, a_mask, a_record, faulty_record, hardly_empty,
+                     records_with_empty_intervals, shrunk, with_index, without_a_rate)
 
 ALL_FULL = make(1, 28, 1, range(6), [FULL_MASK] * 6)
 
-READER_NUMBERS = range(1, 12)
-WRITER_NUMBERS = (4, 9, 10, 11, 12, 17)
+# In the order in which they are looked at.
+READER_NUMBERS = (*range(1, 11), 25, 11)
+WRITER_NUMBERS = (4, 9, 10, 25, 11, 12, 17)
 
-# 9 wants a drn above 28 and 11 one of 1 to 28; 4 wants g above 5, and then no mask stands above g.
-APART = {(9, 11), (4, 12)}
+# 9 wants a drn above 28, 11 and 25 one of 1 to 28; 4 wants g above 5, and then no mask stands
+# above g.
+APART = {(9, 11), (9, 25), (4, 12)}
 
 RESERVED = [*range(25, 30), *range(35, 51), *range(52, 68), *range(69, 85), *range(86, 102),
             *range(129, 136)]
 
 
 def pairs(numbers):
-    """The pairs of refusals that can hold together."""
+    """The pairs of refusals that can hold together, the first looked at first."""
     return [pair for pair in combinations(numbers, 2) if pair not in APART]
+
+
+def pairs_with(number, numbers):
+    """The pairs in which one refusal is."""
+    return [pair for pair in pairs(numbers) if number in pair]
 
 
 def byte_count(bits):
@@ -218,7 +227,7 @@ def edge_records(draw):
 
 
 def reader_cases(draw):
-    """All cases of read_cp."""
+    """The cases of read_cp in document 01."""
     yield from accepted_readings(draw)
     yield from flips(draw)
     yield from start_bits_set(draw)
@@ -226,9 +235,9 @@ def reader_cases(draw):
     yield from fields_at_fault(draw)
     for record in edge_records(draw):
         yield read_case(plain(record), length_of(record))
-    for number in READER_NUMBERS:
+    for number in of_01(READER_NUMBERS):
         yield from (faulty_sequence(draw, {number}) for _ in range(2))
-    for pair in pairs(READER_NUMBERS):
+    for pair in pairs(of_01(READER_NUMBERS)):
         yield faulty_sequence(draw, set(pair))
 
 
@@ -285,20 +294,48 @@ def record_fields_at_fault(draw):
 
 
 def writer_cases(draw):
-    """All cases of write_cp."""
+    """The cases of write_cp in document 01."""
     yield from accepted_writings(draw)
     yield from short_buffers(draw)
     yield from stray_masks(draw)
     yield from record_fields_at_fault(draw)
     for record in edge_records(draw):
         yield write_case(record, draw.octets(byte_count(length_of(record))))
-    for number in WRITER_NUMBERS:
+    for number in of_01(WRITER_NUMBERS):
         yield from (faulty_writing(draw, {number}) for _ in range(3))
-    for pair in pairs(WRITER_NUMBERS):
+    for pair in pairs(of_01(WRITER_NUMBERS)):
+        yield from (faulty_writing(draw, set(pair)) for _ in range(2))
+
+
+# Empty intervals (A.8)
+
+def sparse_records(draw, most_drn):
+    """Records with empty intervals, and records that might be taken for such."""
+    yield from records_with_empty_intervals(draw)
+    yield from without_a_rate(draw, most_drn)
+    yield from hardly_empty(draw)
+
+
+def sparse_readings(draw):
+    """Records with empty masks read, and 25 together with every other refusal of the reader."""
+    for record in sparse_records(draw, 31):
+        yield read_case(plain(record), length_of(record))
+    for pair in pairs_with(25, READER_NUMBERS):
+        yield faulty_sequence(draw, set(pair))
+
+
+def sparse_writings(draw):
+    """Records with empty masks written, and 25 together with every other refusal of the writer."""
+    for record in sparse_records(draw, 255):
+        yield write_case(record, draw.octets(byte_count(length_of(record)) + draw.below(2)))
+    for pair in pairs_with(25, WRITER_NUMBERS):
         yield from (faulty_writing(draw, set(pair)) for _ in range(2))
 
 
 def cases():
     """The stored cases in order."""
     draw = Draw(9104)
-    return list(reader_cases(draw)) + list(writer_cases(draw))
+    found = []
+    for group in (reader_cases, writer_cases, sparse_readings, sparse_writings):
+        found += group(draw)
+    return found

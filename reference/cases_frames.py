@@ -7,25 +7,28 @@ from forms import linear_case, outcome, receive_case, send_case
 from frames import (FRESH, HISTORIES, MOST_FRAMES, State, data_bytes, interval_masks, points,
                     ucodes_for)
 from record import EMPTY, EXAMPLE, FULL_MASK, k_of, make, sizes_of
-from samples import Draw, a_record, a_state, faulty_record
+from refusals import in_order, of_01
+from samples import (Draw, a_record, a_state, faulty_record, hardly_empty,
+                     records_with_empty_intervals, without_a_rate)
 from table1 import A, MU, octet_of
 
 SEVEN_UCODES = make(0, 2, 0, [0] * 6, [127])
 
-NUMBERS = (4, *range(9, 18))
+# In the order in which they are looked at.
+NUMBERS = (4, 9, 10, 25, *range(11, 18))
 
-# As for CP; besides, 13 wants drn 0, 9 one above 28 and 11 one of 1 to 28.
-APART = {(9, 11), (4, 12), (9, 13), (11, 13)}
+# As for CP; besides, 13 wants drn 0, 9 one above 28, 11 and 25 one of 1 to 28.
+APART = {(9, 11), (9, 25), (4, 12), (9, 13), (11, 13), (25, 13)}
 
 
 def possible(numbers):
     """Whether refusals can hold together."""
-    return not any(pair in APART for pair in combinations(sorted(numbers), 2))
+    return not any(pair in APART for pair in combinations(in_order(numbers), 2))
 
 
-def pairs():
-    """The pairs of refusals that can hold together."""
-    return [pair for pair in combinations(NUMBERS, 2) if possible(pair)]
+def pairs(numbers=NUMBERS):
+    """The pairs of refusals that can hold together, the first looked at first."""
+    return [pair for pair in combinations(numbers, 2) if possible(pair)]
 
 
 # Frames with a wanted mark
@@ -139,12 +142,12 @@ def faulty_receive(draw, numbers, state=None, lacks=None):
 
 
 def faulty_cases(draw):
-    """Each refusal alone, each pair, and greater sets at random, for both entries."""
-    for number in NUMBERS:
+    """Each refusal of 01 alone, each pair, and greater sets at random, for both entries."""
+    for number in of_01(NUMBERS):
         for _ in range(1 if number == 15 else 3):
             yield faulty_send(draw, {number})
             yield faulty_receive(draw, {number})
-    for pair in pairs():
+    for pair in pairs(of_01(NUMBERS)):
         yield faulty_send(draw, set(pair))
         yield faulty_receive(draw, set(pair))
     for lacks in (1, 2, 3):
@@ -152,7 +155,7 @@ def faulty_cases(draw):
         yield faulty_receive(draw, {14, 17}, lacks=lacks)
         yield faulty_receive(draw, {16, 17}, lacks=lacks)
     for _ in range(40):
-        numbers = {number for number in NUMBERS if draw.below(3) == 0}
+        numbers = {number for number in of_01(NUMBERS) if draw.below(3) == 0}
         if possible(numbers) and numbers - {15, 17}:
             yield faulty_send(draw, numbers)
             yield faulty_receive(draw, numbers)
@@ -169,9 +172,9 @@ def a_cut(draw, total):
     return calls
 
 
-def a_refused_number(draw):
-    """A refusal that can be met in any state, with few bytes."""
-    return draw.pick([number for number in NUMBERS if number not in (14, 15)])
+def a_refused_number(draw, numbers):
+    """One of some refusals that can be met in any state, with few bytes."""
+    return draw.pick([number for number in numbers if number not in (14, 15)])
 
 
 def sent(draw, record, law, state, cut):
@@ -180,7 +183,7 @@ def sent(draw, record, law, state, cut):
     refused = draw.below(len(cut))
     for n, count in enumerate(cut):
         if n == refused:
-            cases.append(faulty_send(draw, {a_refused_number(draw)}, state))
+            cases.append(faulty_send(draw, {a_refused_number(draw, of_01(NUMBERS))}, state))
         cases.append(a_send(draw, record, law, count, state, draw.pick((0, 0, 2))))
         _, state, octets = outcome(cases[-1])
         line += octets[:6 * count]
@@ -193,7 +196,7 @@ def read(draw, record, law, state, cut, line):
     refused = draw.below(len(cut))
     for n, count in enumerate(cut):
         if n == refused:
-            cases.append(faulty_receive(draw, {a_refused_number(draw)}, state))
+            cases.append(faulty_receive(draw, {a_refused_number(draw, of_01(NUMBERS))}, state))
         frames, line = line[:6 * count], line[6 * count:]
         cases.append(a_receive(draw, record, law, state, frames, draw.pick((0, 0, 2))))
         state = outcome(cases[-1])[1]
@@ -334,11 +337,42 @@ def linear_cases(draw):
             yield linear_case(law, draw.octets(count), room)
 
 
+# Empty intervals (A.8)
+
+def both_ends(draw, record, count):
+    """A call of the sender, and one of the receiver that reads what the sender leaves."""
+    law, state = draw.below(2), a_state(draw)
+    sending = a_send(draw, record, law, count, state)
+    yield sending
+    yield a_receive(draw, record, law, state, outcome(sending)[2])
+
+
+def sparse_calls(draw):
+    """Records with empty masks, with no frame and with one."""
+    for record in (*records_with_empty_intervals(draw), *without_a_rate(draw, 255)):
+        yield from both_ends(draw, record, 0)
+        yield from both_ends(draw, record, 1)
+    for record in hardly_empty(draw):
+        yield from both_ends(draw, record, 1)
+
+
+def sparse_faults(draw):
+    """25 together with every other refusal, and in greater sets at random, for both entries."""
+    sets = [set(pair) for pair in pairs() if 25 in pair]
+    for _ in range(20):
+        numbers = {25} | {number for number in NUMBERS if draw.below(3) == 0}
+        if possible(numbers):
+            sets.append(numbers)
+    for numbers in sets:
+        yield faulty_send(draw, numbers)
+        yield faulty_receive(draw, numbers)
+
+
 def cases():
     """The stored cases in order."""
     draw = Draw(9105)
     found = list(example_calls())
     for group in (marked_frames, number_edges, states, no_frames, faulty_cases, runs, long_calls,
-                  linear_cases):
+                  linear_cases, sparse_calls, sparse_faults):
         found += group(draw)
     return found

@@ -4,6 +4,7 @@ A sequence is handled as one number whose bit n is bit n of the sequence.
 """
 
 from record import EMPTY, faults as record_faults, make, mask_of
+from refusals import Refusal
 
 SYNC = 2**17 - 1
 GRANTED_AT = 18
@@ -114,56 +115,56 @@ def lent_bits(octets, bit_count):
 
 
 def reader_faults(octets, bit_count):
-    """The refusals 1 to 11 that hold, in order.
+    """The refusals 1 to 10, 25 and 11 that hold, in this order.
 
     A test says nothing when the bits it looks at are not all there. Where an index exceeds 5,
     length and CRC are judged by the same formulas in g.
     """
     there, bits = lent_bits(octets, bit_count)
     if bit_count > 8 * len(octets):
-        yield 1
+        yield Refusal(1)
     if bit_count < SHORTEST:
-        yield 2
+        yield Refusal(2)
     if ~bits & SYNC & (1 << there) - 1:
-        yield 3
+        yield Refusal(3)
     if there < end_of_crc(0):
         return
     g = max(indices_in(bits))
     whole = there >= end_of_crc(g)
     if g > 5:
-        yield 4
+        yield Refusal(4)
     if bit_count != length(g):
-        yield 5
+        yield Refusal(5)
     if bits & start_bits(g):
-        yield 6
+        yield Refusal(6)
     if whole and crc_of(bits, g) != bits >> CRC_AT + 136 * g & 0xFFFF:
-        yield 7
+        yield Refusal(7)
     if not bits >> ONE_AT & 1 or any(bits >> at & 1 for at in ZEROS_AT):
-        yield 8
-    judged = (9, 10, 11) if whole else (9, 10)
-    yield from (number for number in record_faults(record_in(bits)) if number in judged)
+        yield Refusal(8)
+    judged = (9, 10, 25, 11) if whole else (9, 10)
+    yield from (fault for fault in record_faults(record_in(bits)) if fault.number in judged)
 
 
 def read_cp(octets, bit_count):
-    """Return (refusal, record); the record is all zero after a refusal."""
-    refusal = next(reader_faults(octets, bit_count), 0)
+    """Return (refusal or None, record); the record is all zero after a refusal."""
+    refusal = next(reader_faults(octets, bit_count), None)
     if refusal:
         return refusal, EMPTY
-    return 0, record_in(lent_bits(octets, bit_count)[1])
+    return None, record_in(lent_bits(octets, bit_count)[1])
 
 
 def writer_faults(record, buffer):
-    """The refusals 4, 9 to 12 and 17 that hold, in order."""
+    """The refusals 4, 9, 10, 25, 11, 12 and 17 that hold, in this order."""
     yield from record_faults(record)
     if 8 * len(buffer) < length(max(record.indices)):
-        yield 17
+        yield Refusal(17)
 
 
 def write_cp(record, buffer):
-    """Return (refusal, bit count, buffer afterwards); the count is 0 after a refusal."""
-    refusal = next(writer_faults(record, buffer), 0)
+    """Return (refusal or None, bit count, buffer afterwards); after a refusal the count is 0."""
+    refusal = next(writer_faults(record, buffer), None)
     if refusal:
         return refusal, 0, bytes(buffer)
     count = length(max(record.indices))
     written = bits_of(record).to_bytes((count + 7) // 8, "little")
-    return 0, count, written + bytes(buffer[len(written):])
+    return None, count, written + bytes(buffer[len(written):])

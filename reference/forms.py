@@ -1,7 +1,8 @@
 """The stored cases: one call of an entry as a byte string, and its answer as another.
 
 A case begins with its kind. The last field takes all the rest; count8 is 8 bytes and len2 2 bytes,
-low byte first; a record is 105 bytes, a line state 5, a law 1.
+low byte first; a record is 105 bytes, a line state 5, a law 1. A refusal is 2 bytes: its number, 0
+for none, and its value, which is the interval for 25 and 0 for all others.
 
     00  read_cp   count8 bit count, CP bytes
                   -> refusal, record
@@ -146,7 +147,7 @@ def held(case):
 def answer(case):
     """The answer to a case, in bytes."""
     refusal, *rest = outcome(case)
-    head = bytes([refusal])
+    head = bytes(refusal or (0, 0))
     if case[0] == READ_CP:
         return head + record.pack(rest[0])
     if case[0] == WRITE_CP:

@@ -8,6 +8,7 @@ from collections import namedtuple
 from functools import lru_cache
 
 from record import faults as record_faults, k_of, mask_of
+from refusals import Refusal
 from table1 import octet_of, ucode_of
 
 State = namedtuple("State", "history sign")
@@ -184,22 +185,22 @@ def receive_frame(record, law, state, octets):
 # The entries
 
 def call_faults(record, frames, state, read, written):
-    """The refusals 4 and 9 to 17 that hold, in order.
+    """The refusals 4, 9, 10, 25 and 11 to 17 that hold, in this order.
 
     `read` and `written` list (bytes lent, bytes needed). Where drn is 0 or exceeds 28, what is
     needed is judged by the same formula in drn.
     """
     yield from record_faults(record)
     if frames >= 1 and record.drn == 0:
-        yield 13
+        yield Refusal(13)
     if state.history >= HISTORIES:
-        yield 14
+        yield Refusal(14)
     if frames > MOST_FRAMES:
-        yield 15
+        yield Refusal(15)
     if any(lent < needed for lent, needed in read):
-        yield 16
+        yield Refusal(16)
     if any(lent < needed for lent, needed in written):
-        yield 17
+        yield Refusal(17)
 
 
 def send_faults(record, law, frames, state, data, octets):
@@ -209,8 +210,8 @@ def send_faults(record, law, frames, state, data, octets):
 
 
 def send(record, law, frames, state, data, octets):
-    """Return (refusal, state left, octets afterwards)."""
-    refusal = next(send_faults(record, law, frames, state, data, octets), 0)
+    """Return (refusal or None, state left, octets afterwards)."""
+    refusal = next(send_faults(record, law, frames, state, data, octets), None)
     if refusal:
         return refusal, state, bytes(octets)
     width = frame_bits(record)
@@ -218,7 +219,7 @@ def send(record, law, frames, state, data, octets):
     for n in range(frames):
         bits = get_bits(data, n * width, width)
         line[6 * n:6 * n + 6], state = send_frame(record, law, state, bits)
-    return 0, state, bytes(line)
+    return None, state, bytes(line)
 
 
 def receive_faults(record, law, frames, state, octets, bits, marks):
@@ -228,8 +229,8 @@ def receive_faults(record, law, frames, state, octets, bits, marks):
 
 
 def receive(record, law, frames, state, octets, bits, marks):
-    """Return (refusal, state left, bits afterwards, marks afterwards)."""
-    refusal = next(receive_faults(record, law, frames, state, octets, bits, marks), 0)
+    """Return (refusal or None, state left, bits afterwards, marks afterwards)."""
+    refusal = next(receive_faults(record, law, frames, state, octets, bits, marks), None)
     if refusal:
         return refusal, state, bytes(bits), bytes(marks)
     width = frame_bits(record)
@@ -240,4 +241,4 @@ def receive(record, law, frames, state, octets, bits, marks):
         frame = octets[6 * n:6 * n + 6]
         judged[n], data, state = receive_frame(record, law, state, frame)
         add_bits(heard, n * width, width, data)
-    return 0, state, bytes(heard), bytes(judged)
+    return None, state, bytes(heard), bytes(judged)

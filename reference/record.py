@@ -8,6 +8,8 @@ import math
 import struct
 from collections import namedtuple
 
+from refusals import Refusal
+
 Record = namedtuple("Record", "granted drn acknowledge indices halves")
 
 EMPTY = Record(0, 0, 0, (0,) * 6, (0,) * 12)
@@ -47,19 +49,28 @@ def sizes_of(record):
     return [mask_of(record, i).bit_count() if i <= 5 else 128 for i in record.indices]
 
 
+def empty_intervals(record):
+    """The intervals whose mask is empty, the lowest first. An index above 5 names no mask."""
+    return [i for i, size in enumerate(sizes_of(record)) if size == 0]
+
+
 def faults(record):
-    """The refusals 4 and 9 to 12 that hold for the record, in order."""
+    """The refusals 4, 9, 10, 25, 11 and 12 that hold for the record, in this order."""
     g = max(record.indices)
+    has_rate = 1 <= record.drn <= 28
+    empty = empty_intervals(record)
     if g > 5:
-        yield 4
+        yield Refusal(4)
     if record.drn > 28:
-        yield 9
+        yield Refusal(9)
     if record.granted and record.drn != 28:
-        yield 10
-    if 1 <= record.drn <= 28 and math.prod(sizes_of(record)) < 2 ** k_of(record):
-        yield 11
+        yield Refusal(10)
+    if has_rate and empty:
+        yield Refusal(25, empty[0])
+    if has_rate and math.prod(sizes_of(record)) < 2 ** k_of(record):
+        yield Refusal(11)
     if any(record.halves[2 * g + 2:]):
-        yield 12
+        yield Refusal(12)
 
 
 def pack(record):

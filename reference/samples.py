@@ -93,6 +93,13 @@ def shrunk(draw, record):
     return record
 
 
+def emptied(draw, record):
+    """The record with one mask emptied that an interval names."""
+    masks = masks_of(record)
+    masks[draw.pick([i for i in record.indices if i <= 5])] = 0
+    return make(*record[:3], record.indices, masks)
+
+
 def with_stray_mask(draw, record):
     """The record with one Ucode in a mask above g, which is 4 or less."""
     masks = masks_of(record)
@@ -108,7 +115,10 @@ def with_index(record, interval, index):
 
 
 def faulty_record(draw, numbers, g=None, most_drn=255, most_index=255):
-    """A record in which those of 4, 9 to 12 hold that are in `numbers`; with 13 its drn is 0."""
+    """A record in which those of 4, 9 to 12 and 25 hold that are in `numbers`.
+
+    With 25 also 11 holds; with 13 the record's drn is 0.
+    """
     g = draw.below(5) if g is None else g
     drn = 0 if 13 in numbers else draw.between(1, 27 if 10 in numbers else 28)
     record = a_record(draw, drn, g)
@@ -118,8 +128,110 @@ def faulty_record(draw, numbers, g=None, most_drn=255, most_index=255):
         record = record._replace(drn=draw.pick((29, draw.between(29, most_drn))))
     if 10 in numbers:
         record = record._replace(granted=1)
-    if 11 in numbers:
+    if 25 in numbers:
+        record = emptied(draw, record)
+    elif 11 in numbers:
         record = shrunk(draw, record)
     if 12 in numbers:
         record = with_stray_mask(draw, record)
     return record
+
+
+# Records with empty masks
+
+LOWER_HALF = 2**64 - 1
+UPPER_HALF = LOWER_HALF << 64
+
+# The record of the examples with an empty mask in intervals 2 and 4.
+TWO_EMPTY = make(0, 1, 0, [0, 0, 1, 0, 1, 0], [0x3F])
+
+
+def hollow(draw, drn, indices, empty):
+    """A record with these indices in which, up to g, just the masks of `empty` are empty."""
+    masks = [0 if m in empty else a_mask(draw, draw.between(1, 128))
+             for m in range(max(indices) + 1)]
+    return make(0, drn, draw.below(2), indices, masks)
+
+
+def empty_by_one(draw, drn, intervals):
+    """A record in which these intervals name one empty mask and the others another mask."""
+    e = draw.below(6)
+    other = draw.pick([m for m in range(6) if m != e])
+    return hollow(draw, drn, [e if i in intervals else other for i in range(6)], {e})
+
+
+def empty_by_own(draw, drn, intervals):
+    """A record of six masks, none in the interval of its number; these intervals' are empty."""
+    turn = draw.between(1, 5)
+    indices = [(i + turn) % 6 for i in range(6)]
+    return hollow(draw, drn, indices, {indices[i] for i in intervals})
+
+
+def some_intervals(draw, count):
+    """That many of the six intervals."""
+    intervals = list(range(6))
+    while len(intervals) > count:
+        intervals.remove(draw.pick(intervals))
+    return intervals
+
+
+def records_with_empty_intervals(draw):
+    """Records refused with 25: each interval alone and two to six, at all sorts of drn."""
+    yield TWO_EMPTY
+    for interval in range(6):
+        yield empty_by_one(draw, draw.between(1, 28), [interval])
+        yield empty_by_own(draw, draw.between(1, 28), [interval])
+    for count in range(2, 7):
+        yield empty_by_one(draw, draw.between(1, 28), some_intervals(draw, count))
+        yield empty_by_own(draw, draw.between(1, 28), some_intervals(draw, count))
+    for drn in (1, 28):
+        yield empty_by_own(draw, drn, some_intervals(draw, 2))
+    yield empty_by_own(draw, 28, [3])._replace(granted=1)
+
+
+def without_a_rate(draw, most_drn):
+    """Records with empty intervals in which 25 does not hold: drn is 0 or exceeds 28."""
+    for drn in (0, 29, most_drn):
+        yield empty_by_one(draw, drn, [draw.below(6)])
+        yield empty_by_own(draw, drn, some_intervals(draw, 3))
+        yield empty_by_own(draw, drn, range(6))._replace(granted=1)
+
+
+def with_one_mask(drn, interval, mask):
+    """A record with this mask in one interval and full masks in the others."""
+    return make(0, drn, 1, [int(i == interval) for i in range(6)], [FULL_MASK, mask])
+
+
+def hardly_empty(draw):
+    """Records without an empty interval: halves of masks and unnamed masks are empty.
+
+    Those with one Ucode fit up to drn 21, those with a half up to 27; one drn more gets 11.
+    """
+    for interval in range(6):
+        yield with_one_mask(draw.pick((1, 27)), interval, LOWER_HALF)
+        yield with_one_mask(draw.pick((1, 27)), interval, UPPER_HALF)
+    for half in (LOWER_HALF, UPPER_HALF):
+        yield with_one_mask(28, draw.below(6), half)
+    for u in (0, 63, 64, 127):
+        yield with_one_mask(21, draw.below(6), 1 << u)
+        yield with_one_mask(22, draw.below(6), 1 << u)
+    for g in range(1, 6):
+        yield with_unnamed_empty(draw, g, draw.pick((1, 28)))
+    yield make(0, 1, 0, [2] * 6, [0, 0, 1])
+
+
+def a_sparse_record(draw):
+    """A record of indices up to 5 and drn up to 31 whose masks are whole, in half or empty."""
+    indices = some_indices(draw, draw.below(6))
+    masks = [a_mask(draw, draw.between(1, 128)) & draw.pick((0, LOWER_HALF, UPPER_HALF, FULL_MASK))
+             for _ in range(max(indices) + 1)]
+    drn = draw.pick((0, 1, 28, 29, draw.between(0, 31), draw.between(1, 28), draw.between(1, 28)))
+    return make(int(draw.below(8) == 0), drn, draw.below(2), indices, masks)
+
+
+def with_unnamed_empty(draw, g, drn):
+    """An accepted record in which masks below g, one or more, are unnamed and empty."""
+    spared = draw.below(g)
+    indices = [draw.pick([m for m in range(g + 1) if m != spared]) for _ in range(6)]
+    indices[draw.below(6)] = g
+    return make(0, drn, 0, indices, [FULL_MASK if m in indices else 0 for m in range(g + 1)])

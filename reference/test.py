@@ -12,11 +12,13 @@ import cases_frames
 import cp
 import forms
 import frames
+import record as records
 import vectors
 from frames import FRESH, State
 from linear import linear
-from record import EMPTY, EXAMPLE, FULL_MASK, k_of, make
-from samples import Draw, a_record, a_state
+from record import EMPTY, EXAMPLE, FULL_MASK, k_of, make, mask_of
+from refusals import ORDER, Refusal, in_order
+from samples import TWO_EMPTY, Draw, a_record, a_sparse_record, a_state
 from table1 import A, MU, linear_of, octet_of, rows, ucode_of
 
 
@@ -54,8 +56,8 @@ def table_1():
         for octet in range(256):
             same(octet_of(law, octet >> 7, ucode_of(law, octet)), octet, "octet there and back")
     same((linear_of(MU, 0x7F), linear_of(MU, 0xFF)), (0, 0), "µ-law zeros")
-    same(linear(A, b"\xd5\x55", [1, 2, 3]), (0, [8, -8, 3]), "samples")
-    same(linear(A, b"\xd5\x55", [1]), (17, [1]), "samples declined")
+    same(linear(A, b"\xd5\x55", [1, 2, 3]), (None, [8, -8, 3]), "samples")
+    same(linear(A, b"\xd5\x55", [1]), (Refusal(17), [1]), "samples declined")
     return "128 rows, 256 octets"
 
 
@@ -64,7 +66,7 @@ def table_1():
 def sent(record, law, count, state, data):
     """(Octets, state) of a call that is not declined."""
     refusal, state, octets = frames.send(record, law, count, state, data, bytes(6 * count))
-    same(refusal, 0, "refusal of send")
+    same(refusal, None, "refusal of send")
     return octets, state
 
 
@@ -73,7 +75,7 @@ def received(record, law, state, octets):
     count = len(octets) // 6
     lent = bytes(frames.data_bytes(record, count)), bytes(count)
     refusal, state, bits, marks = frames.receive(record, law, count, state, octets, *lent)
-    same(refusal, 0, "refusal of receive")
+    same(refusal, None, "refusal of receive")
     return list(marks), int.from_bytes(bits, "little"), state
 
 
@@ -118,18 +120,22 @@ def examples():
     return "B1 to B12"
 
 
+def answers_to(record):
+    """The refusals of the reader, the writer, the sender and the receiver for one record."""
+    return [cp.read_cp(cases_cp.plain(record), cases_cp.length_of(record))[0],
+            cp.write_cp(record, bytes(122))[0],
+            frames.send(record, MU, 0, FRESH, b"", b"")[0],
+            frames.receive(record, MU, 0, FRESH, b"", b"", b"")[0]]
+
+
 def example_sizes():
-    """B9 and B10, for the writer, the reader, the sender and the receiver."""
+    """B9 and B10, for the reader, the writer, the sender and the receiver."""
     lost = FULL_MASK ^ 1 << 77
-    for record, wanted in ((make(0, 1, 0, [0, 0, 0, 0, 0, 1], [63, 31]), 0),
-                           (make(0, 1, 0, [0, 0, 0, 0, 1, 1], [63, 31]), 11),
-                           (make(0, 28, 0, [0] * 6, [FULL_MASK]), 0),
-                           (make(0, 28, 0, [0, 0, 1, 0, 0, 0], [FULL_MASK, lost]), 11)):
-        octets = cases_cp.plain(record)
-        same(cp.write_cp(record, bytes(122))[0], wanted, "B9, B10 written")
-        same(cp.read_cp(octets, cases_cp.length_of(record))[0], wanted, "B9, B10 read")
-        same(frames.send(record, MU, 0, FRESH, b"", b"")[0], wanted, "B9, B10 sent")
-        same(frames.receive(record, MU, 0, FRESH, b"", b"", b"")[0], wanted, "B9, B10 received")
+    for record, wanted in ((make(0, 1, 0, [0, 0, 0, 0, 0, 1], [63, 31]), None),
+                           (make(0, 1, 0, [0, 0, 0, 0, 1, 1], [63, 31]), Refusal(11)),
+                           (make(0, 28, 0, [0] * 6, [FULL_MASK]), None),
+                           (make(0, 28, 0, [0, 0, 1, 0, 0, 0], [FULL_MASK, lost]), Refusal(11))):
+        same(answers_to(record), [wanted] * 4, "B9, B10")
     draw = Draw(10)
     full = make(0, 28, 0, [0] * 6, [FULL_MASK])
     same(set(received(full, A, FRESH, draw.octets(6 * 500))[0]), {0}, "B10's marks")
@@ -139,8 +145,8 @@ def example_length():
     """B12."""
     record = make(0, 1, 0, [0, 0, 0, 0, 0, 1], [63, 31])
     refusal, count, octets = cp.write_cp(record, bytes(54))
-    same((refusal, count, cp.end_of_crc(1)), (0, 426, 425), "B12's length")
-    for bit_count, wanted in ((425, 5), (426, 0), (427, 5)):
+    same((refusal, count, cp.end_of_crc(1)), (None, 426, 425), "B12's length")
+    for bit_count, wanted in ((425, Refusal(5)), (426, None), (427, Refusal(5))):
         same(cp.read_cp(octets, bit_count)[0], wanted, f"B12 with {bit_count} bits")
     same([cp.length(g) for g in range(6)], [294, 426, 564, 702, 834, 972], "lengths")
 
@@ -150,10 +156,10 @@ def example_length():
 def values():
     """CP sequences, octets and states to check by."""
     same(cp.crc(b"123456789"), 0x6F91, "CRC check value")
-    same(cp.write_cp(EXAMPLE, bytes(37)),
-         (0, 294, bytes.fromhex("ffff19" + "00" * 14 + "7e" + "00" * 16 + "e0d000")), "CP of the example")
-    same(cp.write_cp(EMPTY, bytes(37)),
-         (0, 294, bytes.fromhex("ffff09" + "00" * 31 + "64c701")), "CP of zeros")
+    of_example = bytes.fromhex("ffff19" + "00" * 14 + "7e" + "00" * 16 + "e0d000")
+    same(cp.write_cp(EXAMPLE, bytes(37)), (None, 294, of_example), "CP of the example")
+    of_zeros = bytes.fromhex("ffff09" + "00" * 31 + "64c701")
+    same(cp.write_cp(EMPTY, bytes(37)), (None, 294, of_zeros), "CP of zeros")
     same(cp.bits_of(cases_cp.ALL_FULL) >> 273 + 680 & 0xFFFF, 0x9A29, "CRC of full masks")
     octets, state = sent(EXAMPLE, MU, 3, FRESH, b"\xff" * 8)
     same(octets.hex(), "fd7eff7afd7a7b7bfc7cfa7a7d7a7d7eff7d", "63 ones")
@@ -198,11 +204,11 @@ def cp_round_trips():
         before = draw.octets(122 + draw.below(3))
         refusal, count, octets = cp.write_cp(record, before)
         needed = (count + 7) // 8
-        same(refusal, 0, "refusal of the writer")
+        same(refusal, None, "refusal of the writer")
         same(octets[needed:], before[needed:], "bytes beyond")
-        same(cp.read_cp(octets, count), (0, record), "written and read")
+        same(cp.read_cp(octets, count), (None, record), "written and read")
         same(cp.write_cp(record, bytes(needed))[2], octets[:needed], "the same bytes")
-        same(cp.read_cp(cases_cp.noisy(draw, record), count), (0, record), "ignored bits")
+        same(cp.read_cp(cases_cp.noisy(draw, record), count), (None, record), "ignored bits")
     return "1500 records"
 
 
@@ -215,14 +221,16 @@ def bits_in(octets, count):
 
 def refused_send(draw, state):
     """A call of the sender that is declined returns the state it got."""
-    case = cases_frames.faulty_send(draw, {cases_frames.a_refused_number(draw)}, state)
+    number = cases_frames.a_refused_number(draw, cases_frames.NUMBERS)
+    case = cases_frames.faulty_send(draw, {number}, state)
     refusal, after, _ = forms.outcome(case)
     check(refusal and after == state, "a refused sender's call")
 
 
 def refused_receive(draw, state):
     """A call of the receiver that is declined returns the state it got."""
-    case = cases_frames.faulty_receive(draw, {cases_frames.a_refused_number(draw)}, state)
+    number = cases_frames.a_refused_number(draw, cases_frames.NUMBERS)
+    case = cases_frames.faulty_receive(draw, {number}, state)
     refusal, after, _, _ = forms.outcome(case)
     check(refusal and after == state, "a refused receiver's call")
 
@@ -307,7 +315,7 @@ def stored_answers():
     for case, answer in both:
         same(forms.answer(case).hex(), answer.hex(), f"answer to {case.hex()}")
     of_cp = [case for case, _ in both if case[0] in (forms.READ_CP, forms.WRITE_CP)]
-    check(len(of_cp) <= 900, "lines of vectors_cp")
+    check(len(of_cp) <= 1100, "lines of vectors_cp")
     check(max(map(len, of_cp)) <= 300, "a line of vectors_cp")
     texts = [vectors.stored(f"vectors_frames/{name}") for name in ("stdin", "stdout")]
     check(sum(map(len, texts)) < 1_500_000, "size of vectors_frames")
@@ -328,17 +336,21 @@ def lent_unchanged(case):
 
 
 def stored_refusals():
-    """Each refusal of each entry is met alone, and each possible pair with the lower answering."""
+    """Each refusal of each entry is met alone, and each possible pair with the first answering.
+
+    25 counts as alone with 11, which always holds with it.
+    """
     alone, met = set(), set()
     for case, answer in stored_cases():
         held = forms.held(case)
-        same(held, sorted(held), "order of refusals")
-        same(answer[0], held[0] if held else 0, "the first that holds")
+        numbers = [refusal.number for refusal in held]
+        same(numbers, in_order(numbers), "order of refusals")
+        same(answer[:2], bytes(held[0] if held else (0, 0)), "the first that holds")
         if held:
             same(list(forms.outcome(case)[1:]), lent_unchanged(case), "what a refusal leaves")
-        if len(held) == 1:
-            alone.add((case[0], held[0]))
-        met |= {(case[0], held[0], other) for other in held[1:]}
+        if len(held) == 1 or numbers == [25, 11]:
+            alone.add((case[0], numbers[0]))
+        met |= {(case[0], numbers[0], other) for other in numbers[1:]}
     wanted = {forms.READ_CP: (cases_cp.READER_NUMBERS, cases_cp.pairs(cases_cp.READER_NUMBERS)),
               forms.WRITE_CP: (cases_cp.WRITER_NUMBERS, cases_cp.pairs(cases_cp.WRITER_NUMBERS)),
               forms.SEND: (cases_frames.NUMBERS, cases_frames.pairs()),
@@ -379,12 +391,71 @@ def stored_coverage():
     return "rates, lengths, laws, marks, frames"
 
 
+# Empty intervals (A.8)
+
+SPARSE_ENTRIES = (forms.READ_CP, forms.WRITE_CP, forms.SEND, forms.RECEIVE)
+
+
+def lowest_empty(record):
+    """The lowest interval for which no Ucode is in the mask it names; None where each has one."""
+    for interval, m in enumerate(record.indices):
+        if not any(mask_of(record, m) >> u & 1 for u in range(128)):
+            return interval
+    return None
+
+
+def drawn_records(count):
+    """25 holds where drn and the masks say so, with the lowest interval, and never without 11."""
+    draw, told = Draw(4), set()
+    for _ in range(count):
+        record = a_sparse_record(draw)
+        held = list(records.faults(record))
+        lowest = lowest_empty(record) if 1 <= record.drn <= 28 else None
+        values = [refusal.value for refusal in held if refusal.number == 25]
+        same(values, [] if lowest is None else [lowest], f"25 for {record}")
+        check(not values or Refusal(11) in held, f"25 without 11 for {record}")
+        same(answers_to(record), [held[0] if held else None] * 4, f"answers to {record}")
+        told.add(lowest)
+    same(told, {None, *range(6)}, "intervals told")
+
+
+def stored_without_25():
+    """How many stored answers change where no entry has 25: all become 11, and nothing else."""
+    told = []
+    for name in ("cp.record_faults", "frames.record_faults"):
+        with patch(name, without(records.faults, 25)):
+            for case, answer in stored_cases():
+                found = forms.answer(case)
+                if found != answer:
+                    same((answer[0], found), (25, bytes((11, 0)) + answer[2:]), "11 in its place")
+                    told.append((case[0], answer[1]))
+    same(set(told), {(kind, i) for kind in SPARSE_ENTRIES for i in range(6)}, "intervals stored")
+    return len(told)
+
+
+def empty_intervals():
+    """25 tells the lowest empty interval, in all four entries, and takes the place of 11 alone."""
+    same(answers_to(TWO_EMPTY), [Refusal(25, 2)] * 4, "intervals 2 and 4 empty")
+    same(answers_to(TWO_EMPTY._replace(drn=0)), [None] * 4, "the same at drn 0")
+    drawn_records(4000)
+    both = stored_cases()
+    for case, _ in both:
+        numbers = [refusal.number for refusal in forms.held(case)]
+        check(25 not in numbers or 11 in numbers, "25 without 11 in a stored case")
+    changed = stored_without_25()
+    same(changed, sum(answer[0] == 25 for _, answer in both), "stored cases with 25")
+    return f"4000 records, {changed} stored cases with 25 that else have 11"
+
+
 # Wrong codecs
 
 RIGHT = {name: getattr(frames, name)
-         for name in ("points", "send_frame", "receive_frame", "call_faults", "outside", "receive")}
+         for name in ("points", "send_frame", "receive_frame", "call_faults", "send_faults",
+                      "receive_faults", "outside", "receive")}
 RIGHT_CP = {name: getattr(cp, name)
-            for name in ("covered", "crc", "record_in", "record_faults", "reader_faults")}
+            for name in ("covered", "crc", "record_in", "record_faults", "reader_faults",
+                         "writer_faults")}
+RIGHT_EMPTY = records.empty_intervals
 
 
 def history_zeroed(record, state, octets):
@@ -448,7 +519,7 @@ def last_byte_kept(record, law, count, state, octets, bits, marks):
     """The bits beyond the last frame are left in the last byte."""
     refusal, state, heard, judged = RIGHT["receive"](record, law, count, state, octets, bits, marks)
     used = count * frames.frame_bits(record)
-    if refusal == 0 and used % 8:
+    if not refusal and used % 8:
         n = used // 8
         keep = bits[n] >> used % 8 << used % 8
         heard = heard[:n] + bytes([heard[n] | keep]) + heard[n + 1:]
@@ -489,14 +560,73 @@ def bytes_rounded_down(record, count):
     return count * frames.frame_bits(record) // 8
 
 
-def call_faults_without(number):
-    """The sender's and receiver's refusals with one forgotten."""
-    return lambda *args: (n for n in RIGHT["call_faults"](*args) if n != number)
+def without(faults, number):
+    """A list of refusals with one forgotten."""
+    return lambda *args: (fault for fault in faults(*args) if fault.number != number)
 
 
-def record_faults_without(number):
-    """The record's refusals with one forgotten."""
-    return lambda record: (n for n in RIGHT_CP["record_faults"](record) if n != number)
+def moved_before(number, faults):
+    """A list of refusals with 25 looked at just before another."""
+    order = [n for n in ORDER if n != 25]
+    order.insert(order.index(number), 25)
+    return lambda *args: iter(sorted(faults(*args), key=lambda fault: order.index(fault.number)))
+
+
+def empty_last(faults):
+    """A list of refusals with 25 at its end; 11 looks at products above 0 alone."""
+    def found(*args):
+        all_found = list(faults(*args))
+        empty = [fault for fault in all_found if fault.number == 25]
+        yield from (fault for fault in all_found if not empty or fault.number not in (11, 25))
+        yield from empty
+    return found
+
+
+def empty_also_at(rates):
+    """The record's refusals, those of 25 at these drn too."""
+    def found(record):
+        yield from RIGHT_CP["record_faults"](record)
+        if record.drn in rates and RIGHT_EMPTY(record):
+            yield Refusal(25, RIGHT_EMPTY(record)[0])
+    return found
+
+
+def other_value(value):
+    """The record's refusals with another value for 25, made from the record and the interval."""
+    def found(record):
+        for fault in RIGHT_CP["record_faults"](record):
+            empty = fault.number == 25
+            yield Refusal(25, value(record, fault.value)) if empty else fault
+    return found
+
+
+def of_all_entries(faults):
+    """The changes that give all four entries this list of the record's refusals."""
+    return {"cp.record_faults": faults, "frames.record_faults": faults}
+
+
+def empty_without(rate):
+    """No interval counts as empty at this drn."""
+    return {"record.empty_intervals": lambda record:
+            [] if record.drn == rate else RIGHT_EMPTY(record)}
+
+
+def unnamed_count_as_empty(record):
+    """A mask up to g is empty, whether an interval names it or not."""
+    g = min(max(record.indices), 5)
+    return RIGHT_EMPTY(record) or [m for m in range(g + 1) if not mask_of(record, m)]
+
+
+def empty_by_half(half):
+    """The intervals of whose mask this half is empty."""
+    return lambda record: [i for i, m in enumerate(record.indices)
+                           if m <= 5 and record.halves[2 * m + half] == 0]
+
+
+def empty_with_frames(record, count, *rest):
+    """25 is looked at only where there are frames."""
+    faults = RIGHT["call_faults"]
+    return (faults if count else without(faults, 25))(record, count, *rest)
 
 
 def marks_room_ignored(record, law, count, state, octets, bits, marks):
@@ -516,7 +646,8 @@ def bits_room_ignored(record, law, count, state, octets, bits, marks):
 def count_wraps(octets, bit_count):
     """1 compares the bytes needed, counted in 64 bits."""
     exceeds = (bit_count + 7) % 2**64 // 8 > len(octets)
-    return (n for n in RIGHT_CP["reader_faults"](octets, bit_count) if n != 1 or exceeds)
+    faults = RIGHT_CP["reader_faults"]
+    return (faults if exceeds else without(faults, 1))(octets, bit_count)
 
 
 def crc_table(polynomial):
@@ -567,9 +698,10 @@ WRONG_CODECS = {
     "R tested after a cut": {"frames.too_large": lambda record, number: False},
     "last byte not cleared": {"frames.receive": last_byte_kept},
     "bytes rounded down": {"frames.data_bytes": bytes_rounded_down},
-    "12 forgotten by the frames": {"frames.record_faults": record_faults_without(12)},
-    "12 forgotten by the writer": {"cp.record_faults": record_faults_without(12)},
-    "14 forgotten": {"frames.call_faults": call_faults_without(14)},
+    "12 forgotten by the frames":
+        {"frames.record_faults": without(RIGHT_CP["record_faults"], 12)},
+    "12 forgotten by the writer": {"cp.record_faults": without(RIGHT_CP["record_faults"], 12)},
+    "14 forgotten": {"frames.call_faults": without(RIGHT["call_faults"], 14)},
     "1,023 frames at most": {"frames.MOST_FRAMES": 1023},
     "17 for the bits alone": {"frames.receive": marks_room_ignored},
     "17 for the marks alone": {"frames.receive": bits_room_ignored},
@@ -588,13 +720,43 @@ WRONG_CODECS = {
     "nothing written": {"frames.receive": nothing_written},
     "first frame alone": {"frames.receive": first_frame_alone},
     "made-up mark": {"frames.receive_frame": made_up_mark},
-    "2 before looking": {"cp.read_cp": lambda octets, bit_count: (2, EMPTY)},
-    "7 before looking": {"cp.read_cp": lambda octets, bit_count: (7, EMPTY)},
-    "writer always declines": {"cp.write_cp": lambda record, buffer: (17, 0, bytes(buffer))},
+    "2 before looking": {"cp.read_cp": lambda octets, bit_count: (Refusal(2), EMPTY)},
+    "7 before looking": {"cp.read_cp": lambda octets, bit_count: (Refusal(7), EMPTY)},
+    "writer always declines": {"cp.write_cp": lambda record, buffer:
+                               (Refusal(17), 0, bytes(buffer))},
     "sender always declines": {"frames.send": lambda record, law, count, state, data, octets:
-                               (14, state, bytes(octets))},
-    "receiver always declines": {"frames.receive": lambda record, law, count, state, octets, bits, marks:
-                                 (14, state, bytes(bits), bytes(marks))},
+                               (Refusal(14), state, bytes(octets))},
+    "receiver always declines": {"frames.receive": lambda record, law, count, state, *buffers:
+                                 (Refusal(14), state, *map(bytes, buffers[1:]))},
+    "25 forgotten by the reader": {"cp.reader_faults": without(RIGHT_CP["reader_faults"], 25)},
+    "25 forgotten by the writer": {"cp.writer_faults": without(RIGHT_CP["writer_faults"], 25)},
+    "25 forgotten by the sender": {"frames.send_faults": without(RIGHT["send_faults"], 25)},
+    "25 forgotten by the receiver":
+        {"frames.receive_faults": without(RIGHT["receive_faults"], 25)},
+    "25 with frames alone": {"frames.call_faults": empty_with_frames},
+    "25 before 4": of_all_entries(moved_before(4, RIGHT_CP["record_faults"])),
+    "25 before 8 by the reader":
+        {"cp.reader_faults": moved_before(8, RIGHT_CP["reader_faults"])},
+    "25 before 10": of_all_entries(moved_before(10, RIGHT_CP["record_faults"])),
+    "25 after 11": of_all_entries(moved_before(12, RIGHT_CP["record_faults"])),
+    "25 after 12": of_all_entries(empty_last(RIGHT_CP["record_faults"])),
+    "25 after 17 by the writer": {"cp.writer_faults": empty_last(RIGHT_CP["writer_faults"])},
+    "25 after 17 by the frames": {"frames.call_faults": empty_last(RIGHT["call_faults"])},
+    "25 at drn 0": of_all_entries(moved_before(11, empty_also_at([0]))),
+    "25 at drn above 28": of_all_entries(moved_before(9, empty_also_at(range(29, 256)))),
+    "25 not at drn 1": empty_without(1),
+    "25 not at drn 28": empty_without(28),
+    "highest empty interval told":
+        {"record.empty_intervals": lambda record: RIGHT_EMPTY(record)[::-1]},
+    "mask told in place of interval":
+        of_all_entries(other_value(lambda record, interval: record.indices[interval])),
+    "interval told from 1": of_all_entries(other_value(lambda record, interval: interval + 1)),
+    "interval not told": of_all_entries(other_value(lambda record, interval: 0)),
+    "interval 5 not looked at":
+        {"record.empty_intervals": lambda record: [i for i in RIGHT_EMPTY(record) if i < 5]},
+    "unnamed masks counted as empty": {"record.empty_intervals": unnamed_count_as_empty},
+    "lower half alone looked at": {"record.empty_intervals": empty_by_half(0)},
+    "upper half alone looked at": {"record.empty_intervals": empty_by_half(1)},
 }
 
 
@@ -622,8 +784,8 @@ def wrong_codecs():
     return f"{len(found)} stopped"
 
 
-GROUPS = (table_1, examples, values, steps, cp_round_trips, demand_3, stored_answers, stored_refusals,
-          stored_coverage, wrong_codecs)
+GROUPS = (table_1, examples, values, steps, cp_round_trips, demand_3, stored_answers,
+          stored_refusals, stored_coverage, empty_intervals, wrong_codecs)
 
 
 def main():

@@ -65,7 +65,7 @@ static uint64_t mask_size(const struct record *r, unsigned m)
     return (uint64_t)(__builtin_popcountll(r->half[2 * m]) + __builtin_popcountll(r->half[2 * m + 1]));
 }
 
-/* Refusals 4 and 9 to 12. */
+/* Refusals 4, 9, 10, 25, 11 and 12, in this order. With 25 goes the lowest empty interval. */
 static uint32_t record_refusal(const struct record *r)
 {
     unsigned g = largest_index(r);
@@ -77,8 +77,12 @@ static uint32_t record_refusal(const struct record *r)
         return 10;
     if (r->drn > 0) {
         uint64_t product = 1;
-        for (int i = 0; i < 6; i++)
-            product *= mask_size(r, r->index[i]);
+        for (uint32_t i = 0; i < 6; i++) {
+            uint64_t size = mask_size(r, r->index[i]);
+            if (size == 0)
+                return 25 + (i << 24);
+            product *= size;
+        }
         if (product >> (r->drn + 14) == 0)
             return 11;
     }
@@ -204,7 +208,7 @@ static void put_state(uint8_t *state, uint64_t past, unsigned sign)
     state[4] = (uint8_t)sign;
 }
 
-/* Refusals 4 and 9 to 15, and 16 before them for a short record or state. */
+/* Refusals 4, 9 to 15 and 25, and 16 before them for a short record or state. */
 static uint32_t call_refusal(struct record *r, const uint8_t *record, size_t record_len,
                              size_t frames, const uint8_t *state, size_t state_len)
 {

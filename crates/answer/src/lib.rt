@@ -1,12 +1,13 @@
-// The number of an outcome.
+// An outcome in one number: 0, or the refusal's number with the value that it carries in bits 24 to 31.
 use standard::Outcome;
 use standard::Refusal;
 ghost use mathlib.Core.Path.{_≡_};
-ghost use Rattle.standard.specs.Refusals.{refusalNumber, outcomeNumber};
+ghost use Rattle.standard.specs.Refusals.{refusalAnswer, outcomeAnswer};
+ghost use Rattle.answer.specs.Coded.{coded};
 
-// The number of a refusal.
-fn number_of_refusal(x: Refusal) -> u8
-    ensures { λ n. ⌜ n ≡ refusalNumber x ⌝ }
+// A refusal in one number.
+fn code_of_refusal(x: Refusal) -> u32
+    ensures { λ n. ⌜ n ≡ coded (refusalAnswer x) ⌝ }
 {
     match x {
         Refusal::CountExceedsBytes => 1,
@@ -26,15 +27,16 @@ fn number_of_refusal(x: Refusal) -> u8
         Refusal::TooManyFrames => 15,
         Refusal::InputTooShort => 16,
         Refusal::OutputTooShort => 17,
+        Refusal::IntervalEmpty(i) => 25 + 0x100_0000 * (i as u32),
     }
 }
 
-// The number of an outcome: 0 where nothing is refused.
-pub fn number_of(o: Outcome) -> u8
-    ensures { λ n. ⌜ n ≡ outcomeNumber o ⌝ }
+// An outcome in one number.
+pub fn code_of(o: Outcome) -> u32
+    ensures { λ n. ⌜ n ≡ coded (outcomeAnswer o) ⌝ }
 {
     match o {
         Outcome::Done => 0,
-        Outcome::Refused(x) => number_of_refusal(x),
+        Outcome::Refused(x) => code_of_refusal(x),
     }
 }

@@ -15,7 +15,7 @@ ghost use Rattle.standard.specs.First.{first};
 ghost use Rattle.standard.specs.Bits.{bitsIn, bytesOf, bytesFor, nth};
 ghost use Rattle.standard.specs.Record.{D};
 ghost use Rattle.standard.specs.Frame.{dataBits, sendFrames, sendAfter, receiveFrames, receiveMarks, receiveAfter};
-ghost use Rattle.standard.specs.Refusals.{outcomeNumber, recordTests, lineTests, bufferTests, frameTests};
+ghost use Rattle.standard.specs.Refusals.{outcomeAnswer, recordTests, lineTests, bufferTests, frameTests};
 ghost use Rattle.standard.specs.Calls.{over, sendCall, sendRefusal, sendLeft, sendOctets, receiveCall, receiveRefusal, receiveLeft, receiveBytes, receiveMarked};
 ghost use Rattle.codec.specs.Allowed.{Allowed};
 
@@ -36,7 +36,7 @@ fn data_bytes(width: usize, frames: usize) -> usize
 
 // Refusals 13 to 15.
 fn line_fault(r: Record, state: LineState, frames: usize) -> Outcome
-    ensures { λ x. ⌜ outcomeNumber x ≡ first (lineTests r state frames) ⌝ }
+    ensures { λ x. ⌜ outcomeAnswer x ≡ first (lineTests r state frames) ⌝ }
 {
     if (1 <= frames) & (r.drn == 0) {
         return Outcome::Refused(Refusal::FramesAtCleardown);
@@ -52,7 +52,7 @@ fn line_fault(r: Record, state: LineState, frames: usize) -> Outcome
 
 // Refusals 16 and 17: whether the buffer to be read, and one to be written, is shorter than needed.
 fn buffer_fault(input: bool, output: bool) -> Outcome
-    ensures { λ x. ⌜ outcomeNumber x ≡ first (bufferTests input output) ⌝ }
+    ensures { λ x. ⌜ outcomeAnswer x ≡ first (bufferTests input output) ⌝ }
 {
     if input {
         return Outcome::Refused(Refusal::InputTooShort);
@@ -63,9 +63,9 @@ fn buffer_fault(input: bool, output: bool) -> Outcome
     Outcome::Done
 }
 
-// Refusals 4 and 9 to 15.
+// Refusals 4, 9, 10, 25 and 11 to 15.
 fn call_fault(r: Record, state: LineState, frames: usize) -> Outcome
-    ensures { λ x. ⌜ outcomeNumber x ≡ first (recordTests r ++ lineTests r state frames) ⌝ }
+    ensures { λ x. ⌜ outcomeAnswer x ≡ first (recordTests r ++ lineTests r state frames) ⌝ }
 {
     let fault = constellation::record_fault(r);
     if let Outcome::Refused(_) = fault {
@@ -76,7 +76,7 @@ fn call_fault(r: Record, state: LineState, frames: usize) -> Outcome
 
 // The first refusal of a call of the sender that lends so many bytes of data and octets of line.
 fn send_fault(r: Record, state: LineState, frames: usize, bytes: usize, octets: usize) -> Outcome
-    ensures { λ x. ⌜ outcomeNumber x ≡ first (frameTests r state frames (ltb bytes (bytesFor (dataBits r frames))) (ltb octets (6 * frames))) ⌝ }
+    ensures { λ x. ⌜ outcomeAnswer x ≡ first (frameTests r state frames (ltb bytes (bytesFor (dataBits r frames))) (ltb octets (6 * frames))) ⌝ }
 {
     let fault = call_fault(r, state, frames);
     if let Outcome::Refused(_) = fault {
@@ -95,7 +95,7 @@ fn receive_fault(
     bytes: usize,
     marks: usize,
 ) -> Outcome
-    ensures { λ x. ⌜ outcomeNumber x ≡ first (frameTests r state frames (ltb octets (6 * frames)) (ltb bytes (bytesFor (dataBits r frames)) || ltb marks frames)) ⌝ }
+    ensures { λ x. ⌜ outcomeAnswer x ≡ first (frameTests r state frames (ltb octets (6 * frames)) (ltb bytes (bytesFor (dataBits r frames)) || ltb marks frames)) ⌝ }
 {
     let fault = call_fault(r, state, frames);
     if let Outcome::Refused(_) = fault {
@@ -165,7 +165,7 @@ fn receive_frames(
     left
 }
 
-// The entry: turns frames * D data bits into 6 * frames octets. Refusals 4 and 9 to 17, the first that applies.
+// The entry: turns frames * D data bits into 6 * frames octets. Refusals 4, 9, 10, 25 and 11 to 17, the first that applies.
 pub fn send(
     r: Record,
     law: Law,
@@ -174,7 +174,7 @@ pub fn send(
     bytes: &[u8],
     octets: &mut [u8],
 ) -> FramesDone
-    ensures { λ x. ⌜ (outcomeNumber (x .outcome) ≡ sendRefusal state (sendCall r law frames (now (bytes .entry)) (now (octets .entry))))
+    ensures { λ x. ⌜ (outcomeAnswer (x .outcome) ≡ sendRefusal state (sendCall r law frames (now (bytes .entry)) (now (octets .entry))))
         × (x .state ≡ sendLeft state (sendCall r law frames (now (bytes .entry)) (now (octets .entry))))
         × (now (octets .exit) ≡ sendOctets state (sendCall r law frames (now (bytes .entry)) (now (octets .entry)))) ⌝ }
 {
@@ -192,7 +192,7 @@ pub fn send(
     }
 }
 
-// The entry: turns 6 * frames octets into frames * D data bits and a mark for each frame. Refusals 4 and 9 to 17, the first that applies.
+// The entry: turns 6 * frames octets into frames * D data bits and a mark for each frame. Refusals 4, 9, 10, 25 and 11 to 17, the first that applies.
 pub fn receive(
     r: Record,
     law: Law,
@@ -202,7 +202,7 @@ pub fn receive(
     bytes: &mut [u8],
     marks: &mut [u8],
 ) -> FramesDone
-    ensures { λ x. ⌜ (outcomeNumber (x .outcome) ≡ receiveRefusal state (receiveCall r law frames (now (octets .entry)) (now (bytes .entry)) (now (marks .entry))))
+    ensures { λ x. ⌜ (outcomeAnswer (x .outcome) ≡ receiveRefusal state (receiveCall r law frames (now (octets .entry)) (now (bytes .entry)) (now (marks .entry))))
         × (x .state ≡ receiveLeft state (receiveCall r law frames (now (octets .entry)) (now (bytes .entry)) (now (marks .entry))))
         × (now (bytes .exit) ≡ receiveBytes state (receiveCall r law frames (now (octets .entry)) (now (bytes .entry)) (now (marks .entry))))
         × (now (marks .exit) ≡ receiveMarked state (receiveCall r law frames (now (octets .entry)) (now (bytes .entry)) (now (marks .entry)))) ⌝ }

@@ -7,9 +7,10 @@ ghost use mathlib.Core.Path.{_≡_};
 ghost use Prim.Native.Nat.{_<_, _≤_, max};
 ghost use Rattle.standard.specs.First.{first};
 ghost use Rattle.standard.specs.Record.{indexOf, topIndex};
+ghost use Rattle.standard.specs.Cp.{within};
 ghost use Rattle.standard.specs.Constellation.{sizeOf, labelOf, pointOf, sizes};
 ghost use Rattle.standard.specs.Modulus.{product};
-ghost use Rattle.standard.specs.Refusals.{outcomeNumber, indexTooLarge, grantedBelowFullRate, productTooSmall, maskAboveIndices, rateTests, recordTests};
+ghost use Rattle.standard.specs.Refusals.{outcomeAnswer, indexTooLarge, grantedBelowFullRate, intervalEmpty, productTooSmall, maskAboveIndices, emptyTests, rateTests, recordTests};
 ghost use Rattle.constellation.specs.Mask.{has, maskOf, Indexed};
 
 // Masks: sizes, membership, labels and points, and what a record is refused for.
@@ -148,19 +149,30 @@ fn product_of(r: Record) -> u64
     found
 }
 
+// Whether drn is 1 to 28.
+fn rated(r: Record) -> bool
+    ensures { λ x. ⌜ x ≡ within 1 28 (r .drn) ⌝ }
+{
+    (1 <= r.drn) & (r.drn <= 28)
+}
+
+// Refusal 25 at interval i: drn is 1 to 28 and the interval's mask is empty.
+fn interval_empty(r: Record, i: usize) -> bool
+    requires { ⌜ (i < 6) × (indexOf r i ≤ 5) ⌝ }
+    ensures { λ x. ⌜ x ≡ intervalEmpty r i ⌝ }
+{
+    rated(r) & (size_of(mask_of(r, i)) == 0)
+}
+
 // Refusal 11: drn is 1 to 28 and the product is below 2 ^ K.
 fn product_too_small(r: Record) -> bool
     requires { ⌜ Indexed r ⌝ }
     ensures { λ x. ⌜ x ≡ productTooSmall r ⌝ }
 {
-    let drn = r.drn;
-    if drn == 0 {
+    if !rated(r) {
         return false;
     }
-    if 28 < drn {
-        return false;
-    }
-    product_of(r) < 1u64 << (drn + 14)
+    product_of(r) < 1u64 << (r.drn + 14)
 }
 
 // Refusal 12: a mask above g is not empty.
@@ -178,10 +190,25 @@ fn mask_above_indices(r: Record) -> bool
     found
 }
 
-// Refusals 9 to 11.
+// Refusal 25, with the lowest interval whose mask is empty.
+fn empty_fault(r: Record) -> Outcome
+    requires { ⌜ Indexed r ⌝ }
+    ensures { λ x. ⌜ outcomeAnswer x ≡ first (emptyTests r) ⌝ }
+{
+    let mut i = 0;
+    while i < 6 {
+        if interval_empty(r, i) {
+            return Outcome::Refused(Refusal::IntervalEmpty(i as u8));
+        }
+        i += 1;
+    }
+    Outcome::Done
+}
+
+// Refusals 9, 10, 25 and 11.
 pub fn rate_fault(r: Record) -> Outcome
     requires { ⌜ Indexed r ⌝ }
-    ensures { λ x. ⌜ outcomeNumber x ≡ first (rateTests r) ⌝ }
+    ensures { λ x. ⌜ outcomeAnswer x ≡ first (rateTests r) ⌝ }
 {
     if 28 < r.drn {
         return Outcome::Refused(Refusal::DrnTooLarge);
@@ -189,15 +216,19 @@ pub fn rate_fault(r: Record) -> Outcome
     if granted_below_full_rate(r) {
         return Outcome::Refused(Refusal::GrantedBelowFullRate);
     }
+    let empty = empty_fault(r);
+    if let Outcome::Refused(_) = empty {
+        return empty;
+    }
     if product_too_small(r) {
         return Outcome::Refused(Refusal::ProductTooSmall);
     }
     Outcome::Done
 }
 
-// Refusals 4 and 9 to 12.
+// Refusals 4, 9, 10, 25, 11 and 12.
 pub fn record_fault(r: Record) -> Outcome
-    ensures { λ x. ⌜ outcomeNumber x ≡ first (recordTests r) ⌝ }
+    ensures { λ x. ⌜ outcomeAnswer x ≡ first (recordTests r) ⌝ }
 {
     if index_too_large(r) {
         return Outcome::Refused(Refusal::IndexTooLarge);

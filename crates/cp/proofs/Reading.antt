@@ -1,20 +1,20 @@
 -- Laws of the CRC, of fields and of tests as the reader's code goes through them. Assumes nothing.
 use mathlib.Core.Path.{_≡_, refl, sym, ap, ap₂, _∙_}
-use Prim.Native.Nat.{ℕ, zero, suc, _+_, _*_, _/_, _%_, _^_, _≤_, _<_}
+use Prim.Native.Nat.{ℕ, zero, suc, _+_, _*_, _/_, _%_, _^_, _≤_}
 use mathlib.Core.Bool.{Bool, cond, not, _||_, Bool·beq}
 use mathlib.Core.List.{List, _++_}
 use native.Mathlib.Nat.{add-zero, zero-add, add-suc, suc-add, mul-assoc, pow-suc}
 use native.Mathlib.Omega.{arith}
-use borrow.Author.Tests.{le-ltb, eq-eqb, ne-eqb}
+use borrow.Author.Tests.{le-ltb}
 use lib.Dec.{eqb}
 use Rattle.standard.specs.Bits.{_⊕_, odd, bitAt, field}
-use Rattle.standard.specs.First.{first}
+use Rattle.standard.specs.First.{Answer, bare, first}
 use Rattle.standard.specs.Lists.{listFrom, any, largest}
 use Rattle.standard.specs.Record.{indexOf, topIndex, noRecord}
 use Rattle.standard.specs.Crc.{crcStep, crcBelow}
 use Rattle.standard.specs.Cp.{runPlace, indexIn, maskBitIn, halfIn, recordIn}
-use Rattle.standard.specs.Refusals.{outcomeNumber, readTests}
-use Rattle.standard.specs.Calls.{readRefusal, readRecord}
+use Rattle.standard.specs.Refusals.{outcomeAnswer, readTests}
+use Rattle.standard.specs.Calls.{accepted, readCall, readRefusal, readRecord}
 use Rattle.standard.specs.declared.Outcome.{Outcome}
 use Rattle.standard.specs.declared.Outcome.the-variants.{Done, Refused}
 use Rattle.standard.specs.declared.Record.{Record}
@@ -24,8 +24,7 @@ use Rattle.standard.proofs.Crc.{crcBelow-next}
 use Rattle.standard.proofs.Lists.{any-next, getD-list, largest-ext}
 use Rattle.standard.proofs.Words.{odd-test}
 use Rattle.standard.proofs.Words.{xor-bits}
-use Rattle.standard.proofs.Stages.{refused-positive, stage-hit, stage-past}
-use Rattle.standard.specs.Calls.{readCall}
+use Rattle.standard.proofs.Stages.{refused-not, stage-hit, stage-past}
 use Rattle.cp.specs.Stages.{shapeTests, sequenceTests, contentTests}
 use Rattle.cp.specs.Reading.{headIn}
 
@@ -101,28 +100,26 @@ record-read f head g mask h e m =
 
 -- ---- the answer
 
--- refusals 1 to 3, then 4 to 11
+-- refusals 1 to 3, then 4 on
 pub read-stages : (s : List ℕ) (n : ℕ) → readTests s n ≡ shapeTests s n ++ contentTests (bitAt s) n (recordIn (bitAt s))
 unfolding readTests shapeTests contentTests sequenceTests
 read-stages s n = refl
 
 module _ (s : List ℕ) (n : ℕ) where
   -- a refusal leaves no record
-  pub read-refused : (o : Outcome) (x : Refusal) → o ≡ Refused x → outcomeNumber o ≡ readRefusal (readCall s n) → readRecord (readCall s n) ≡ noRecord
+  pub read-refused : (o : Outcome) (x : Refusal) → o ≡ Refused x → outcomeAnswer o ≡ readRefusal (readCall s n) → readRecord (readCall s n) ≡ noRecord
   unfolding readRecord
-  read-refused o x q e =
-      let p : 0 < readRefusal (readCall s n) = omega (arith, refused-positive x, ap outcomeNumber q) in
-      rw (ne-eqb (readRefusal (readCall s n)) 0 (λ (z : readRefusal (readCall s n) ≡ 0). omega arith))
+  read-refused o x q e = rw (refused-not o x (readRefusal (readCall s n)) q e)
 
-  pub read-accepted : 0 ≡ readRefusal (readCall s n) → readRecord (readCall s n) ≡ recordIn (bitAt s)
+  pub read-accepted : bare 0 ≡ readRefusal (readCall s n) → readRecord (readCall s n) ≡ recordIn (bitAt s)
   unfolding readRecord
-  read-accepted e = rw (eq-eqb (readRefusal (readCall s n)) 0 (sym e))
+  read-accepted e = rw (sym (ap accepted e))
 
   -- the refusal, from either stage
-  pub refused-shape : (o : Outcome) (x : Refusal) → o ≡ Refused x → outcomeNumber o ≡ first (shapeTests s n) → outcomeNumber o ≡ readRefusal (readCall s n)
+  pub refused-shape : (o : Outcome) (x : Refusal) → o ≡ Refused x → outcomeAnswer o ≡ first (shapeTests s n) → outcomeAnswer o ≡ readRefusal (readCall s n)
   unfolding readRefusal
   refused-shape o x q e = rw (read-stages s n) (stage-hit o x (shapeTests s n) (contentTests (bitAt s) n (recordIn (bitAt s))) q e)
 
-  pub past-shape : (o : Outcome) → o ≡ Done → outcomeNumber o ≡ first (shapeTests s n) → (m : ℕ) → m ≡ first (contentTests (bitAt s) n (recordIn (bitAt s))) → m ≡ readRefusal (readCall s n)
+  pub past-shape : (o : Outcome) → o ≡ Done → outcomeAnswer o ≡ first (shapeTests s n) → {a : Answer} → a ≡ first (contentTests (bitAt s) n (recordIn (bitAt s))) → a ≡ readRefusal (readCall s n)
   unfolding readRefusal shapeTests
-  past-shape o q e m k = rw (read-stages s n) (stage-past o (shapeTests s n) (contentTests (bitAt s) n (recordIn (bitAt s))) tt q e m k)
+  past-shape o q e k = rw (read-stages s n) (stage-past o (shapeTests s n) (contentTests (bitAt s) n (recordIn (bitAt s))) tt q e k)

@@ -6,17 +6,15 @@ use mathlib.Core.Bool.{Bool, true, false, cond, _||_}
 use mathlib.Core.List.{List, [], _∷_, _++_, append-nil}
 use native.Mathlib.Decide.{decLe, decLt}
 use native.Mathlib.Omega.{arith}
-use borrow.Author.Tests.{eq-eqb, ne-eqb}
-use lib.Dec.{lit<}
 use lib.ListN.{length, drop, replicate, length-replicate, getD-replicate}
-use Rattle.standard.specs.First.{first}
+use Rattle.standard.specs.First.{bare, test, first}
 use Rattle.standard.specs.Lists.{listFrom}
 use Rattle.standard.specs.Bits.{bit, bitAt, field, bytesOf}
 use Rattle.standard.specs.Record.{halfOf, topIndex, inMask}
 use Rattle.standard.specs.Crc.{crcBelow}
 use Rattle.standard.specs.Cp.{gamma, cpLength, cpByteCount, runPlace, Field, put, covers, bitIn, headFields, maskRun, maskFields, cpBody, crcField, cpBit, cpBytes}
-use Rattle.standard.specs.Refusals.{indexTooLarge, outcomeNumber, rateTests, recordTests, writeTests}
-use Rattle.standard.specs.Calls.{accepted, writeRefusal, writeBitCount, writeBytes}
+use Rattle.standard.specs.Refusals.{indexTooLarge, outcomeAnswer, recordTests, writeTests}
+use Rattle.standard.specs.Calls.{accepted, writeCall, writeRefusal, writeBitCount, writeBytes}
 use Rattle.standard.specs.declared.Outcome.{Outcome}
 use Rattle.standard.specs.declared.Outcome.the-variants.{Done, Refused}
 use Rattle.standard.specs.declared.Record.{Record}
@@ -25,11 +23,11 @@ use Rattle.standard.proofs.Bits.{field-ext, field-number, length-bytesOf, bytes
 use Rattle.standard.proofs.Crc.{crcBelow-ext}
 use Rattle.standard.proofs.Cp.{bitIn-left, covers-no, cp-crc}
 use Rattle.standard.proofs.Lists.{listFrom-is, listFrom-ext}
-use Rattle.standard.proofs.Refusals.{not-applied}
+use Rattle.standard.proofs.First.{none-split}
+use Rattle.standard.proofs.Refusals.{record-numbered, write-numbered}
 use Rattle.bits.specs.PutField.{putField}
 use Rattle.bits.proofs.PutField.{putField-bytes}
-use Rattle.standard.proofs.Stages.{refused-positive}
-use Rattle.standard.specs.Calls.{writeCall}
+use Rattle.standard.proofs.Stages.{refused-not, done-none}
 use Rattle.cp.specs.Writing.{putFields, runOf}
 
 -- ---- fields put into zeroed bytes
@@ -155,33 +153,30 @@ cp-put r g x s s₁ s₂ s₃ s₄ n q e₁ e₂ e₃ c e₄ =
 
 -- ---- a record that is not refused
 
-pub index-passed : (r : Record) (o : Outcome) → o ≡ Done → outcomeNumber o ≡ first (recordTests r) → indexTooLarge r ≡ false
-unfolding recordTests rateTests
-index-passed r o q e = not-applied (recordTests r) tt (sym e ∙ ap outcomeNumber q) 0 (lit< tt)
+pub index-passed : (r : Record) (o : Outcome) → o ≡ Done → outcomeAnswer o ≡ first (recordTests r) → indexTooLarge r ≡ false
+unfolding recordTests
+index-passed r o q e = done-none o (recordTests r) (record-numbered r) q e .0
 
 -- a call that is not refused: no index is above 5, and the bytes suffice
-pub write-passed : (r : Record) (short : Bool) (o : Outcome) → o ≡ Done → outcomeNumber o ≡ first (writeTests r short) → (indexTooLarge r ≡ false) × (short ≡ false)
-unfolding writeTests recordTests rateTests
+pub write-passed : (r : Record) (short : Bool) (o : Outcome) → o ≡ Done → outcomeAnswer o ≡ first (writeTests r short) → (indexTooLarge r ≡ false) × (short ≡ false)
+unfolding writeTests recordTests
 write-passed r short o q e =
-    let at = not-applied (writeTests r short) tt (sym e ∙ ap outcomeNumber q) in
-    (at 0 (lit< tt), at 5 (lit< tt))
+    let p = none-split (recordTests r) (test 17 short ∷ []) (done-none o (writeTests r short) (write-numbered r short) q e) in
+    (p .0 .0, p .1 .0)
 
 -- ---- the answer
 
 module _ (r : Record) (s : List ℕ) where
   -- a refusal leaves the bytes
-  pub write-refused : (o : Outcome) (x : Refusal) → o ≡ Refused x → outcomeNumber o ≡ writeRefusal (writeCall r s)
+  pub write-refused : (o : Outcome) (x : Refusal) → o ≡ Refused x → outcomeAnswer o ≡ writeRefusal (writeCall r s)
       → (0 ≡ writeBitCount (writeCall r s)) × (s ≡ writeBytes (writeCall r s))
   unfolding writeBitCount writeBytes
-  write-refused o x q e =
-      let p : 0 < writeRefusal (writeCall r s) = omega (arith, refused-positive x, ap outcomeNumber q) in
-      let z : accepted (writeRefusal (writeCall r s)) ≡ false = ne-eqb (writeRefusal (writeCall r s)) 0 (λ (z : writeRefusal (writeCall r s) ≡ 0). omega arith) in
-      (rw z, rw z)
+  write-refused o x q e = let no = refused-not o x (writeRefusal (writeCall r s)) q e in (rw no, rw no)
 
-  pub write-accepted : 0 ≡ writeRefusal (writeCall r s) → (n k : ℕ) (t : List ℕ) → n ≡ cpLength (topIndex r) → k ≡ cpByteCount (topIndex r) → t ≡ cpBytes r
+  pub write-accepted : bare 0 ≡ writeRefusal (writeCall r s) → (n k : ℕ) (t : List ℕ) → n ≡ cpLength (topIndex r) → k ≡ cpByteCount (topIndex r) → t ≡ cpBytes r
       → (n ≡ writeBitCount (writeCall r s)) × (t ++ drop k s ≡ writeBytes (writeCall r s))
   unfolding writeBitCount writeBytes cpBytes
   write-accepted e n k t a b d =
-      let z : accepted (writeRefusal (writeCall r s)) ≡ true = eq-eqb (writeRefusal (writeCall r s)) 0 (sym e) in
+      let z : accepted (writeRefusal (writeCall r s)) ≡ true = sym (ap accepted e) in
       let l : length (cpBytes r) ≡ cpByteCount (topIndex r) = length-bytesOf (cpByteCount (topIndex r)) (cpBit r) in
       (rw z a, rw (z, d, b, l))

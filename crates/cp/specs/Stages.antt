@@ -18,6 +18,6 @@ unfoldable pub sequenceTests : (ℕ → Bool) → ℕ → ℕ → List Test
 sequenceTests f n g =
     test 5 (lengthWrong n g) ∷ test 6 (startBitSet f g) ∷ test 7 (not (crcMatches f g)) ∷ test 8 (fixedBitWrong f) ∷ []
 
--- 4 to 11, of the record that was read
+-- 4 on, of the record that was read
 unfoldable pub contentTests : (ℕ → Bool) → ℕ → Record → List Test
 contentTests f n r = test 4 (indexTooLarge r) ∷ (sequenceTests f n (topIndex r) ++ rateTests r)

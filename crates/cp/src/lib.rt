@@ -15,7 +15,7 @@ ghost use Rattle.standard.specs.Bits.{weight, bitAt, field};
 ghost use Rattle.standard.specs.Record.{topIndex, noRecord};
 ghost use Rattle.standard.specs.Crc.{crcStep, crcBelow};
 ghost use Rattle.standard.specs.Cp.{gamma, cpLength, cpByteCount, runPlace, headFields, maskFields, cpBytes, indexIn, halfIn, recordIn, crcMatches, startBitSet};
-ghost use Rattle.standard.specs.Refusals.{outcomeNumber, syncBroken, fixedBitWrong, writeTests};
+ghost use Rattle.standard.specs.Refusals.{outcomeAnswer, syncBroken, fixedBitWrong, writeTests};
 ghost use Rattle.standard.specs.Calls.{readCall, readRefusal, readRecord, writeCall, writeRefusal, writeBitCount, writeBytes};
 ghost use Rattle.bits.specs.PutField.{putField};
 ghost use Rattle.cp.specs.Stages.{shapeTests, sequenceTests, contentTests};
@@ -195,7 +195,7 @@ fn fixed_bit_wrong(cp: &[u8]) -> bool
 
 // Refusals 1 to 3.
 fn shape_fault(cp: &[u8], bit_count: usize) -> Outcome
-    ensures { λ x. ⌜ outcomeNumber x ≡ first (shapeTests (now (cp .entry)) «bit_count») ⌝ }
+    ensures { λ x. ⌜ outcomeAnswer x ≡ first (shapeTests (now (cp .entry)) «bit_count») ⌝ }
 {
     if cp.len() < bit_count / 8 + (bit_count % 8 + 7) / 8 {
         return Outcome::Refused(Refusal::CountExceedsBytes);
@@ -212,7 +212,7 @@ fn shape_fault(cp: &[u8], bit_count: usize) -> Outcome
 // Refusals 5 to 8.
 fn sequence_fault(cp: &[u8], bit_count: usize, g: usize) -> Outcome
     requires { ⌜ g ≤ 5 ⌝ }
-    ensures { λ x. ⌜ outcomeNumber x ≡ first (sequenceTests (bitAt (now (cp .entry))) «bit_count» g) ⌝ }
+    ensures { λ x. ⌜ outcomeAnswer x ≡ first (sequenceTests (bitAt (now (cp .entry))) «bit_count» g) ⌝ }
 {
     if bit_count != cp_length(g) {
         return Outcome::Refused(Refusal::LengthWrong);
@@ -229,9 +229,9 @@ fn sequence_fault(cp: &[u8], bit_count: usize, g: usize) -> Outcome
     Outcome::Done
 }
 
-// Refusals 4 to 11, of the record that was read.
+// Refusals 4 to 10, 25 and 11, of the record that was read.
 fn content_fault(cp: &[u8], bit_count: usize, r: Record) -> Outcome
-    ensures { λ x. ⌜ outcomeNumber x ≡ first (contentTests (bitAt (now (cp .entry))) «bit_count» r) ⌝ }
+    ensures { λ x. ⌜ outcomeAnswer x ≡ first (contentTests (bitAt (now (cp .entry))) «bit_count» r) ⌝ }
 {
     if constellation::index_too_large(r) {
         return Outcome::Refused(Refusal::IndexTooLarge);
@@ -259,9 +259,9 @@ fn refused(outcome: Outcome) -> CpRead
     }
 }
 
-// The entry: reads a CP of so many bits. Refusals 1 to 11, the first that applies.
+// The entry: reads a CP of so many bits. Refusals 1 to 10, 25 and 11, the first that applies.
 pub fn read_cp(cp: &[u8], bit_count: usize) -> CpRead
-    ensures { λ x. ⌜ (outcomeNumber (x .outcome) ≡ readRefusal (readCall (now (cp .entry)) «bit_count»)) × (x .record ≡ readRecord (readCall (now (cp .entry)) «bit_count»)) ⌝ }
+    ensures { λ x. ⌜ (outcomeAnswer (x .outcome) ≡ readRefusal (readCall (now (cp .entry)) «bit_count»)) × (x .record ≡ readRecord (readCall (now (cp .entry)) «bit_count»)) ⌝ }
 {
     let shape = shape_fault(cp, bit_count);
     if let Outcome::Refused(_) = shape {
@@ -286,9 +286,9 @@ fn byte_count(g: usize) -> usize
     (cp_length(g) + 7) / 8
 }
 
-// Refusals 4, 9 to 12 and 17, where `room` bytes are lent.
+// Refusals 4, 9, 10, 25, 11, 12 and 17, where `room` bytes are lent.
 fn write_fault(r: Record, room: usize) -> Outcome
-    ensures { λ x. ⌜ outcomeNumber x ≡ first (writeTests r (ltb room (cpByteCount (topIndex r)))) ⌝ }
+    ensures { λ x. ⌜ outcomeAnswer x ≡ first (writeTests r (ltb room (cpByteCount (topIndex r)))) ⌝ }
 {
     let fault = constellation::record_fault(r);
     if let Outcome::Refused(_) = fault {
@@ -390,9 +390,9 @@ fn put_cp(cp: &mut [u8], r: Record)
     bits::put_field(cp, 273 + 136 * g, 16, crc);
 }
 
-// The entry: writes the CP of a record, and answers its bit count. Refusals 4, 9 to 12 and 17, the first that applies.
+// The entry: writes the CP of a record, and answers its bit count. Refusals 4, 9, 10, 25, 11, 12 and 17, the first that applies.
 pub fn write_cp(r: Record, cp: &mut [u8]) -> CpWritten
-    ensures { λ x. ⌜ (outcomeNumber (x .outcome) ≡ writeRefusal (writeCall r (now (cp .entry)))) × (x .«bit_count» ≡ writeBitCount (writeCall r (now (cp .entry)))) × (now (cp .exit) ≡ writeBytes (writeCall r (now (cp .entry)))) ⌝ }
+    ensures { λ x. ⌜ (outcomeAnswer (x .outcome) ≡ writeRefusal (writeCall r (now (cp .entry)))) × (x .«bit_count» ≡ writeBitCount (writeCall r (now (cp .entry)))) × (now (cp .exit) ≡ writeBytes (writeCall r (now (cp .entry)))) ⌝ }
 {
     let fault = write_fault(r, cp.len());
     if let Outcome::Refused(_) = fault {

@@ -1,10 +1,9 @@
 -- A frame received: its mark, its number and its bits. Assumes nothing.
 use mathlib.Core.Path.{_≡_, refl, sym, ap, ap₂, _∙_}
-use Prim.Native.Nat.{ℕ, zero, suc, _+_, _*_, _-_, _%_, _^_, _≤_, _<_}
+use Prim.Native.Nat.{ℕ, suc, _+_, _*_, _-_, _%_, _^_, _≤_, _<_}
 use mathlib.Core.Bool.{Bool, true, false, not}
 use mathlib.Core.List.{List, [], _∷_, _++_}
-use native.Mathlib.Nat.{not-suc-le-zero, add-comm, mul-le-mul, le-refl, lt-of-lt-of-le}
-use native.Mathlib.Numerals.{add-one}
+use native.Mathlib.Nat.{add-comm, mul-le-mul, le-refl, lt-of-lt-of-le}
 use native.Mathlib.Omega.{arith}
 use borrow.Author.Tests.{le-leb, lt-leb, eq-eqb, ne-eqb}
 use lib.Bits.{bitOr}
@@ -13,7 +12,7 @@ use lib.ListN.{length, getD, drop, replicate, drop-of-length-le}
 use lib.Pow.{pow-add, pow-mono}
 use lib.Seq.{drop-cons}
 use Rattle.standard.specs.Lists.{listFrom}
-use Rattle.standard.specs.First.{Test, test, first}
+use Rattle.standard.specs.First.{Answer, bare, Test, test, first}
 use Rattle.standard.specs.Bits.{numberOf, bitsOf}
 use Rattle.standard.specs.Record.{K, D}
 use Rattle.standard.specs.Scrambler.{pushAll, descramble}
@@ -24,8 +23,8 @@ use Rattle.standard.specs.Frame.{outsideTest, outsideTests, signAt, ucodeAt, re
 use Rattle.standard.specs.declared.Law.{Law}
 use Rattle.standard.specs.declared.LineState.{LineState}
 use Rattle.standard.specs.declared.Record.{Record}
-use Rattle.standard.proofs.Lists.{length-listFrom}
-use Rattle.standard.proofs.First.{first-left, none-first, first-append}
+use Rattle.standard.proofs.Lists.{length-listFrom, listFrom-cons}
+use Rattle.standard.proofs.First.{same-number, firstFrom, turn-hit, turn-past, first-left, none-first, first-append}
 use Rattle.standard.proofs.Bits.{numberOf-lt, bits-back}
 use Rattle.standard.proofs.Constellation.{sizeOf-le}
 use Rattle.standard.proofs.Signs.{length-signBits}
@@ -38,33 +37,23 @@ use Rattle.constellation.proofs.Masks.{mask-member, mask-label, label-le}
 pub label-small : (u c : ℕ) (m : Mask) → u < 128 → c ≡ labelOf (has m) 128 u → c ≤ 128
 label-small u c m lu ec = rw ec (label-le (has m) 128 u lu)
 
-listFrom-cons : {X : Type 0} (f : ℕ → X) (i n : ℕ) → 0 < n → listFrom f i n ≡ f i ∷ listFrom f (i + 1) (n - 1)
-unfolding listFrom
-listFrom-cons f i zero h = absurd (not-suc-le-zero h)
-listFrom-cons {X} f i (suc n) h =
-    let e : suc n - 1 ≡ n = omega arith in
-    ap₂ (λ (j k : ℕ). f i ∷ listFrom f j k) (sym (add-one i)) (sym e)
-
 module _ (r : Record) (l : Law) (os : List ℕ) where
   -- ---- the tests of marks 1 to 6, one a turn
 
-  abbrev pub outsideFrom : ℕ → ℕ
-  outsideFrom i = first (listFrom (outsideTest r l os) i (6 - i))
+  abbrev pub outsideFrom : ℕ → Answer
+  outsideFrom = firstFrom (outsideTest r l os) 6
 
   module _ (i : ℕ) (m : Mask) (u : ℕ) (b : Bool) (em : m ≡ maskOf r i) (eu : u ≡ ucodeAt l os i) (lu : u < 128) (eb : b ≡ has m u) where
     belongs-is : b ≡ member r i (ucodeAt l os i)
     belongs-is = eb ∙ ap (λ (x : Mask). has x u) em ∙ mask-member r i u lu ∙ ap (member r i) eu
 
-    turn : i < 6 → listFrom (outsideTest r l os) i (6 - i) ≡ outsideTest r l os i ∷ listFrom (outsideTest r l os) (i + 1) (6 - (i + 1))
-    turn h = let e : 6 - i - 1 ≡ 6 - (i + 1) = omega arith in listFrom-cons (outsideTest r l os) i (6 - i) (omega arith) ∙ rw e
-
-    pub outside-here : i < 6 → not b ≡ true → outsideFrom i ≡ i + 1
-    unfolding outsideTest first
-    outside-here h e = ap first (turn h) ∙ rw (sym (ap not belongs-is) ∙ e)
+    pub outside-here : i < 6 → not b ≡ true → outsideFrom i ≡ bare (i + 1)
+    unfolding outsideTest
+    outside-here h e = turn-hit (outsideTest r l os) 6 i h (sym (ap not belongs-is) ∙ e)
 
     pub outside-past : i < 6 → not b ≡ false → outsideFrom i ≡ outsideFrom (i + 1)
-    unfolding outsideTest first
-    outside-past h e = ap first (turn h) ∙ rw (sym (ap not belongs-is) ∙ e)
+    unfolding outsideTest
+    outside-past h e = turn-past (outsideTest r l os) 6 i h (sym (ap not belongs-is) ∙ e)
 
   -- ---- the number R, from label 5 down to label 0
 
@@ -132,22 +121,22 @@ module _ (r : Record) (l : Law) (os : List ℕ) where
   abbrev seventh : List Test
   seventh = test 7 (leb (2 ^ K r) (receivedNumber r l os)) ∷ []
 
-  marks : mark r l os ≡ first (outsideTests r l os ++ seventh)
+  marks : mark r l os ≡ first (outsideTests r l os ++ seventh) .number
   unfolding mark markTests
   marks = refl
 
-  pub mark-outside : (x : ℕ) → x ≡ first (outsideTests r l os) → 0 < x → x ≡ mark r l os
-  mark-outside x e h = e ∙ sym (marks ∙ first-left (outsideTests r l os) seventh (rw e at h))
+  pub mark-outside : (x : ℕ) → x ≡ first (outsideTests r l os) .number → 0 < x → x ≡ mark r l os
+  mark-outside x e h = e ∙ sym (marks ∙ same-number (first-left (outsideTests r l os) seventh (rw e at h)))
 
-  passed : first (outsideTests r l os) ≡ 0 → mark r l os ≡ first seventh
+  passed : first (outsideTests r l os) .number ≡ 0 → mark r l os ≡ first seventh .number
   unfolding outsideTests outsideTest listFrom
-  passed e = marks ∙ first-append (outsideTests r l os) seventh (none-first (outsideTests r l os) tt e)
+  passed e = marks ∙ same-number (first-append (outsideTests r l os) seventh (none-first (outsideTests r l os) tt e))
 
-  pub mark-seventh : first (outsideTests r l os) ≡ 0 → 2 ^ K r ≤ receivedNumber r l os → mark r l os ≡ 7
+  pub mark-seventh : first (outsideTests r l os) .number ≡ 0 → 2 ^ K r ≤ receivedNumber r l os → mark r l os ≡ 7
   unfolding first
   mark-seventh e h = passed e ∙ rw (le-leb (2 ^ K r) (receivedNumber r l os) h)
 
-  pub mark-good : first (outsideTests r l os) ≡ 0 → receivedNumber r l os < 2 ^ K r → mark r l os ≡ 0
+  pub mark-good : first (outsideTests r l os) .number ≡ 0 → receivedNumber r l os < 2 ^ K r → mark r l os ≡ 0
   unfolding first
   mark-good e h = passed e ∙ rw (lt-leb (2 ^ K r) (receivedNumber r l os) h)
 

@@ -79,7 +79,7 @@ pub fn send_frame(
 // The mark of the first interval whose Ucode is outside its mask, or 0.
 fn mark_outside(r: Record, law: Law, octets: &[u8]) -> u8
     requires { ⌜ Indexed r × (length (now octets) ≡ 6) ⌝ }
-    ensures { λ x. ⌜ x ≡ first (outsideTests r law (now (octets .entry))) ⌝ }
+    ensures { λ x. ⌜ x ≡ first (outsideTests r law (now (octets .entry))) .number ⌝ }
 {
     let mut i = 0;
     while i < 6 {

@@ -5,7 +5,7 @@ use standard::Refusal;
 ghost use mathlib.Core.Path.{_≡_};
 ghost use Prim.Native.Nat.{_%_, _^_, _<_};
 ghost use Rattle.standard.specs.Octets.{positiveOctet, octet, signOf, ucodeOf, magnitude, sampleOf};
-ghost use Rattle.standard.specs.Refusals.{outcomeNumber};
+ghost use Rattle.standard.specs.Refusals.{outcomeAnswer};
 ghost use Rattle.standard.specs.Calls.{linearCall, linearRefusal, linearSamples};
 ghost use Rattle.pcm.specs.Table.{rowOf};
 
@@ -596,7 +596,7 @@ fn sample_of(law: Law, octet: u8) -> i32
 
 // The entry: each octet's signed linear value into `samples`; refusal 17 where it is shorter than `octets`.
 pub fn linear(law: Law, octets: &[u8], samples: &mut [i32]) -> Outcome
-    ensures { λ r. ⌜ (outcomeNumber r ≡ linearRefusal (linearCall law (now (octets .entry)) (now (samples .entry))))
+    ensures { λ r. ⌜ (outcomeAnswer r ≡ linearRefusal (linearCall law (now (octets .entry)) (now (samples .entry))))
         × (now (samples .exit) ≡ linearSamples (linearCall law (now (octets .entry)) (now (samples .entry)))) ⌝ }
 {
     if samples.len() < octets.len() {

@@ -3,7 +3,7 @@ use mathlib.Core.Path.{_≡_, _∙_}
 use Prim.Native.Nat.{_*_, _<_}
 use mathlib.Core.Bool.{true}
 use native.Mathlib.Omega.{arith}
-use borrow.Author.Tests.{ltb-false, eqb-true}
+use borrow.Author.Tests.{ltb-false}
 use lib.ListN.{length, take, drop}
 use lib.Seq.{length-take-le, take-at}
 use Rattle.standard.specs.Bits.{bitsIn, bytesFor}
@@ -31,7 +31,7 @@ sends-own st c e =
       many = length-bitsIn (dataBits (c .cp) n) (c .bytes);
       octets = rw e (take-at os (drop (length os) (c .octets)) (6 * n) (length-sendFrames (c .cp) (c .law) n st (sendBits c) ∙ omega arith));
       state = rw e;
-      holds = holds-passed (c .cp) st n _ _ (passed (c .cp) st n _ _ (eqb-true (sendRefusal st c) 0 e));
+      holds = holds-passed (c .cp) st n _ _ (passed (c .cp) st n _ _ e);
     }
 
 pub record Receives (r : Record) (l : Law) (st : LineState) (c : ReceiveCall) : Type 0 where
@@ -47,7 +47,7 @@ receives-own st c e =
     let k = dataBits (c .cp) n in
     let bs = receiveFrames (c .cp) (c .law) n st (receiveOctets c) in
     let ms = receiveMarks (c .cp) (c .law) n (receiveOctets c) in
-    let p = passed (c .cp) st n _ _ (eqb-true (receiveRefusal st c) 0 e) in
+    let p = passed (c .cp) st n _ _ e in
     record {
       many = length-take-le (6 * n) (c .octets) (ltb-false (length (c .octets)) (6 * n) (p .enough)) ∙ omega arith;
       bits = rw e (bits-written k (bytesFor k) bs _ (length-receiveFrames (c .cp) (c .law) n st (receiveOctets c)) (omega arith));

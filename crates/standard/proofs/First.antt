@@ -1,28 +1,32 @@
 -- Laws of the first test that applies. Assumes nothing.
 use mathlib.Core.Path.{_≡_, refl, sym, ap, _∙_}
-use Prim.Native.Nat.{ℕ, zero, suc, _+_, _<_}
+use Prim.Native.Nat.{ℕ, zero, suc, _+_, _-_, _≤_, _<_}
 use mathlib.Core.Bool.{Bool, true, false, cond, _&&_}
 use mathlib.Core.List.{List, [], _∷_, _++_}
 use native.Mathlib.Nat.{not-suc-le-zero, add-zero, add-suc, suc-add, zero-lt-suc}
+use native.Mathlib.Numerals.{add-one}
 use native.Mathlib.Omega.{arith}
 use lib.Dec.{T, ltb, ltb→lt}
 use lib.ListN.{length, getD}
 use Rattle.standard.specs.Lists.{listFrom}
-use Rattle.standard.specs.First.{Test, test, first}
-use Rattle.standard.proofs.Lists.{and-left, and-right}
+use Rattle.standard.specs.First.{Answer, bare, valued, Test, valuedTest, first}
+use Rattle.standard.proofs.Lists.{and-left, and-right, listFrom-cons}
 
-pub first-hit : (n : ℕ) (b : Bool) (ts : List Test) → b ≡ true → n ≡ first (test n b ∷ ts)
+pub same-number : {a b : Answer} → a ≡ b → a .number ≡ b .number
+same-number e = ap (λ (a : Answer). a .number) e
+
+pub first-hit : {v : ℕ} (n : ℕ) (b : Bool) (ts : List Test) → b ≡ true → valued n v ≡ first (valuedTest n v b ∷ ts)
 unfolding first
 first-hit n b ts e = rw e
 
-pub first-skip : (m n : ℕ) (b : Bool) (ts : List Test) → b ≡ false → m ≡ first ts → m ≡ first (test n b ∷ ts)
+pub first-skip : {a : Answer} (t : Test) (ts : List Test) → t .applies ≡ false → a ≡ first ts → a ≡ first (t ∷ ts)
 unfolding first
-first-skip m n b ts e r = rw e r
+first-skip t ts e r = rw e r
 
 -- no test has the number 0
 abbrev pub numbered : List Test → Bool
 numbered [] = true
-numbered (t ∷ ts) = ltb 0 (t .number) && numbered ts
+numbered (t ∷ ts) = ltb 0 (t .answer .number) && numbered ts
 
 -- none of them applies
 abbrev pub None : List Test → Type 0
@@ -30,18 +34,18 @@ None [] = Unit {0}
 None (t ∷ ts) = (t .applies ≡ false) × None ts
 
 -- 'only when its condition holds': 0 is answered where no test applies, and only there
-pub first-none : (ts : List Test) → None ts → first ts ≡ 0
+pub first-none : (ts : List Test) → None ts → first ts ≡ bare 0
 unfolding first
 first-none [] p = refl
 first-none (t ∷ ts) p = rw (p .0) (first-none ts (p .1))
 
-pub none-first : (ts : List Test) → T (numbered ts) → first ts ≡ 0 → None ts
+pub none-first : (ts : List Test) → T (numbered ts) → first ts .number ≡ 0 → None ts
 unfolding first
 none-first [] p e = tt
-none-first (t ∷ ts) p e = go (none-first ts (and-right (ltb 0 (t .number)) (numbered ts) p)) (t .applies) refl
+none-first (t ∷ ts) p e = go (none-first ts (and-right (ltb 0 (t .answer .number)) (numbered ts) p)) (t .applies) refl
   where
-    go : (first ts ≡ 0 → None ts) → (b : Bool) → t .applies ≡ b → (t .applies ≡ false) × None ts
-    go ih true q = absurd (omega (arith, ltb→lt 0 (t .number) (and-left (ltb 0 (t .number)) (numbered ts) p), rw q at e))
+    go : (first ts .number ≡ 0 → None ts) → (b : Bool) → t .applies ≡ b → (t .applies ≡ false) × None ts
+    go ih true q = absurd (omega (arith, ltb→lt 0 (t .answer .number) (and-left (ltb 0 (t .answer .number)) (numbered ts) p), rw q at e))
     go ih false q = (q, ih (rw q at e))
 
 -- test k of them, counted from 0
@@ -54,6 +58,10 @@ pub none-append : (ts us : List Test) → None ts → None us → None (ts ++ us
 none-append [] us p q = q
 none-append (t ∷ ts) us p q = (p .0, none-append ts us (p .1) q)
 
+pub none-split : (ts us : List Test) → None (ts ++ us) → None ts × None us
+none-split [] us p = (tt, p)
+none-split (t ∷ ts) us p = let q = none-split ts us (p .1) in ((p .0, q .0), q .1)
+
 pub none-listFrom : (f : ℕ → Test) (i n : ℕ) → ((k : ℕ) → k < n → f (i + k) .applies ≡ false) → None (listFrom f i n)
 unfolding listFrom
 none-listFrom f i zero h = tt
@@ -62,6 +70,37 @@ none-listFrom f i (suc n) h = (
   none-listFrom f (suc i) n (λ k l. ap (λ (j : ℕ). f j .applies) (suc-add i k ∙ sym (add-suc i k)) ∙ h (suc k) (omega arith)),
 )
 
+-- ---- the tests f 0 to f (n - 1), made one a turn
+
+-- the answer of those from f i on
+abbrev pub firstFrom : (ℕ → Test) → ℕ → ℕ → Answer
+firstFrom f n i = first (listFrom f i (n - i))
+
+module _ (f : ℕ → Test) (n : ℕ) where
+  module _ (i : ℕ) (h : i < n) where
+    turn : listFrom f i (n - i) ≡ f i ∷ listFrom f (i + 1) (n - (i + 1))
+    turn = let e : n - i - 1 ≡ n - (i + 1) = omega arith in listFrom-cons f i (n - i) (omega arith) ∙ rw e
+
+    pub turn-hit : f i .applies ≡ true → firstFrom f n i ≡ f i .answer
+    unfolding first
+    turn-hit e = ap first turn ∙ rw e
+
+    pub turn-past : f i .applies ≡ false → firstFrom f n i ≡ firstFrom f n (i + 1)
+    unfolding first
+    turn-past e = ap first turn ∙ rw e
+
+  pub turns-over : firstFrom f n n ≡ bare 0
+  unfolding first listFrom
+  turns-over = let z : n - n ≡ 0 = omega arith in rw z
+
+  turns-past : (i : ℕ) → i ≤ n → ((k : ℕ) → k < i → f k .applies ≡ false) → first (listFrom f 0 n) ≡ firstFrom f n i
+  turns-past zero h p = let e : n - 0 ≡ n = omega arith in rw e
+  turns-past (suc i) h p = rw (← add-one i) (turns-past i (omega arith) (λ k l. p k (omega arith)) ∙ turn-past i h (p i (omega arith)))
+
+  -- the lowest that applies answers
+  pub first-lowest : (i : ℕ) → i < n → f i .applies ≡ true → ((k : ℕ) → k < i → f k .applies ≡ false) → first (listFrom f 0 n) ≡ f i .answer
+  first-lowest i h e p = turns-past i (omega arith) p ∙ turn-hit i h e
+
 -- a list of tests of which none applies is passed over
 pub first-append : (ts us : List Test) → None ts → first (ts ++ us) ≡ first us
 unfolding first
@@ -69,12 +108,12 @@ first-append [] us p = refl
 first-append (t ∷ ts) us p = rw (p .0) (first-append ts us (p .1))
 
 -- one that answers a number answers it whatever follows
-pub first-left : (ts us : List Test) → 0 < first ts → first (ts ++ us) ≡ first ts
+pub first-left : (ts us : List Test) → 0 < first ts .number → first (ts ++ us) ≡ first ts
 unfolding first
 first-left [] us h = absurd (not-suc-le-zero h)
 first-left (t ∷ ts) us h = go (first-left ts us) (t .applies) refl
   where
-    go : (0 < first ts → first (ts ++ us) ≡ first ts) → (b : Bool) → t .applies ≡ b
-        → cond (t .applies) (t .number) (first (ts ++ us)) ≡ cond (t .applies) (t .number) (first ts)
+    go : (0 < first ts .number → first (ts ++ us) ≡ first ts) → (b : Bool) → t .applies ≡ b
+        → cond (t .applies) (t .answer) (first (ts ++ us)) ≡ cond (t .applies) (t .answer) (first ts)
     go ih true q = rw q
     go ih false q = rw q (ih (rw q at h))

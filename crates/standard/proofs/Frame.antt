@@ -23,7 +23,7 @@ use Rattle.standard.specs.declared.Law.{Law}
 use Rattle.standard.specs.declared.LineState.{LineState}
 use Rattle.standard.specs.declared.Record.{Record}
 use Rattle.standard.proofs.Lists.{length-listFrom, getD-list, listFrom-is, joined-snoc, length-joined, length-parts, parts-snoc, each-append, after-append, length-each, sized-each}
-use Rattle.standard.proofs.First.{None, first-hit, first-none, none-append, none-listFrom, first-append}
+use Rattle.standard.proofs.First.{None, same-number, first-hit, first-none, none-append, none-listFrom, first-append}
 use Rattle.standard.proofs.Bits.{numberOf-lt, bits-back, length-bitsOf}
 use Rattle.standard.proofs.Scrambler.{length-scramble, length-descramble}
 use Rattle.standard.proofs.Constellation.{Names, names}
@@ -66,12 +66,16 @@ module _ (r : Record) (l : Law) (os : List ℕ) where
   pub mark-seven : Belong → 2 ^ K r ≤ receivedNumber r l os → mark r l os ≡ 7
   unfolding mark markTests
   mark-seven all h =
-      first-append (outsideTests r l os) tooLarge (none-outside all) ∙ sym (first-hit 7 (leb (2 ^ K r) (receivedNumber r l os)) [] (le-leb (2 ^ K r) (receivedNumber r l os) h))
+      same-number
+      (first-append (outsideTests r l os) tooLarge (none-outside all)
+      ∙ sym (first-hit 7 (leb (2 ^ K r) (receivedNumber r l os)) [] (le-leb (2 ^ K r) (receivedNumber r l os) h)))
 
   pub mark-zero : Belong → receivedNumber r l os < 2 ^ K r → mark r l os ≡ 0
   unfolding mark markTests
   mark-zero all h =
-      first-none (markTests r l os) (none-append (outsideTests r l os) tooLarge (none-outside all) (lt-leb (2 ^ K r) (receivedNumber r l os) h, tt))
+      same-number
+      (first-none (markTests r l os)
+      (none-append (outsideTests r l os) tooLarge (none-outside all) (lt-leb (2 ^ K r) (receivedNumber r l os) h, tt)))
 
   pub marked-bits : (st : LineState) → good r l os ≡ false → receiveFrame r l st os ≡ replicate (D r) false
   unfolding receiveFrame

@@ -1,7 +1,7 @@
 -- Laws of counting and lists. Assumes nothing.
 use mathlib.Core.Path.{_≡_, refl, sym, ap, ap₂, _∙_}
 use mathlib.Core.Logic.{_⊎_, inl, inr}
-use Prim.Native.Nat.{ℕ, zero, suc, _+_, _*_, _≤_, _<_, max}
+use Prim.Native.Nat.{ℕ, zero, suc, _+_, _*_, _-_, _≤_, _<_, max}
 use mathlib.Core.Bool.{Bool, true, false, _&&_, _||_, Bool·beq}
 use mathlib.Core.List.{List, [], _∷_, _++_, map, append-assoc, append-nil}
 use native.Mathlib.Nat.{add-zero, zero-add, add-suc, suc-add, zero-mul, not-suc-le-zero, suc-ne-zero, le-of-suc-le-suc, eq-or-lt-of-le}
@@ -33,6 +33,14 @@ module _ {X : Type 0} (f : ℕ → X) where
   pub listFrom-is : (d : X) (n : ℕ) (xs : List X) → length xs ≡ n → ((k : ℕ) → k < n → getD xs k d ≡ f k) → xs ≡ listFrom f 0 n
   listFrom-is d n xs e h =
       ext-getD d xs (listFrom f 0 n) (e ∙ sym (length-listFrom 0 n)) (λ k b. let b′ : k < n = omega arith in h k b′ ∙ sym (getD-list d n k b′))
+
+  -- the first element apart
+  pub listFrom-cons : (i n : ℕ) → 0 < n → listFrom f i n ≡ f i ∷ listFrom f (i + 1) (n - 1)
+  unfolding listFrom
+  listFrom-cons i zero h = absurd (not-suc-le-zero h)
+  listFrom-cons i (suc n) h =
+      let e : suc n - 1 ≡ n = omega arith in
+      ap₂ (λ (j k : ℕ). f i ∷ listFrom f j k) (sym (add-one i)) (sym e)
 
   -- one element more
   pub listFrom-snoc : (i n : ℕ) → listFrom f i (suc n) ≡ listFrom f i n ++ (f (i + n) ∷ [])

@@ -3,7 +3,7 @@ use mathlib.Core.Path.{_≡_, refl, sym, ap, _∙_, subst}
 use mathlib.Core.Logic.{_⊎_, inl, inr}
 use Prim.Native.Nat.{ℕ, zero, suc, _+_, _*_, _/_, _%_, _≤_, _<_}
 use mathlib.Core.List.{List, [], _∷_}
-use native.Mathlib.Nat.{mod-lt, mod-add-div, div-lt-iff-lt-mul, mul-comm, not-suc-le-zero, eq-zero-or-pos, zero-mul, le-trans, le-refl, le-of-eq, add-comm, mul-suc, mul-le-mul-left, add-lt-add-of-lt-of-le}
+use native.Mathlib.Nat.{mod-lt, mod-add-div, div-lt-iff-lt-mul, mul-comm, not-suc-le-zero, eq-zero-or-pos, zero-mul, mul-zero, le-trans, le-refl, le-of-eq, add-comm, mul-suc, mul-le-mul-left, add-lt-add-of-lt-of-le}
 use native.Mathlib.Omega.{arith}
 use lib.ListN.{length, getD}
 use Rattle.standard.specs.Lists.{listFrom}
@@ -38,6 +38,13 @@ pub within-listFrom : (M c : ℕ → ℕ) (i n : ℕ) → ((k : ℕ) → i ≤ k
 unfolding listFrom
 within-listFrom M c i zero h = tt
 within-listFrom M c i (suc n) h = (h i (omega arith) (omega arith), within-listFrom M c (suc i) n (λ k a b. h k (omega arith) (omega arith)))
+
+-- a product with a factor 0
+pub product-zero : (Ms : List ℕ) (i : ℕ) → i < length Ms → getD Ms i 0 ≡ 0 → product Ms ≡ 0
+unfolding product
+product-zero [] i h e = absurd (not-suc-le-zero h)
+product-zero (M ∷ Ms) zero h e = ap (λ (x : ℕ). x * product Ms) e ∙ zero-mul (product Ms)
+product-zero (M ∷ Ms) (suc i) h e = ap (λ (x : ℕ). M * x) (product-zero Ms i (omega arith) e) ∙ mul-zero M
 
 pub positive-factor : (a b R : ℕ) → R < a * b → zero < a
 positive-factor a b R h = go (eq-zero-or-pos a)

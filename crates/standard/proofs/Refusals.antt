@@ -1,26 +1,30 @@
--- What a record and a call that are not refused have passed. Assumes nothing.
-use mathlib.Core.Path.{_≡_, refl, ap, ap₂}
+-- What a record and a call that are not refused have passed, and what a record with an empty interval is refused with. Assumes nothing.
+use mathlib.Core.Path.{_≡_, refl, sym, ap, ap₂, _∙_}
 use mathlib.Core.Logic.{_⊎_, inl, inr}
 use Prim.Native.Nat.{ℕ, zero, suc, _+_, _-_, _*_, _^_, _≤_, _<_, zero-le}
-use mathlib.Core.Bool.{Bool, true, false, _&&_}
-use mathlib.Core.List.{List}
+use mathlib.Core.Bool.{Bool, true, false, _&&_, and-eq-true-iff}
+use mathlib.Core.List.{List, [], _∷_, _++_}
 use native.Mathlib.Nat.{eq-zero-or-pos}
 use native.Mathlib.Omega.{arith}
-use borrow.Author.Tests.{ltb-false, le-leb, eqb-false}
+use borrow.Author.Tests.{lt-ltb, le-ltb, ltb-false, le-leb, leb-true, eqb-true, eqb-false}
 use lib.Dec.{T, lit<, leb, ltb, eqb}
 use lib.ListN.{length, getD}
-use Rattle.standard.specs.First.{Test, test, first}
+use lib.Pow.{pow-pos}
+use Rattle.standard.specs.Lists.{listFrom}
+use Rattle.standard.specs.First.{valued, Test, test, first}
 use Rattle.standard.specs.Bits.{weight, positive}
 use Rattle.standard.specs.Record.{indexOf, topIndex, halfOf, K}
 use Rattle.standard.specs.Cp.{within}
-use Rattle.standard.specs.Constellation.{sizes}
+use Rattle.standard.specs.Constellation.{size, sizes}
 use Rattle.standard.specs.Modulus.{product}
-use Rattle.standard.specs.Refusals.{indexTooLarge, drnTooLarge, grantedBelowFullRate, productTooSmall, maskAboveIndices, framesAtCleardown, historyTooLarge, tooManyFrames, rateTests, recordTests, lineTests, bufferTests, frameTests}
+use Rattle.standard.specs.Refusals.{indexTooLarge, drnTooLarge, grantedBelowFullRate, intervalEmpty, productTooSmall, maskAboveIndices, framesAtCleardown, historyTooLarge, tooManyFrames, emptyTest, emptyTests, rateTests, recordTests, readTests, writeTests, lineTests, bufferTests, frameTests}
+use Rattle.standard.specs.Calls.{accepted}
 use Rattle.standard.specs.declared.LineState.{LineState}
 use Rattle.standard.specs.declared.Record.{Record}
 use Rattle.standard.proofs.Lists.{any-none, none-any, largest-lt}
-use Rattle.standard.proofs.First.{numbered, none-first, none-at}
-use Rattle.standard.proofs.Frame.{Holds}
+use Rattle.standard.proofs.First.{numbered, first-skip, first-left, none-first, none-at, first-lowest}
+use Rattle.standard.proofs.Modulus.{product-zero}
+use Rattle.standard.proofs.Frame.{Holds, length-sizes, size-at}
 
 pub and-false-right : (a b : Bool) → a ≡ true → a && b ≡ false → b ≡ false
 and-false-right true b e f = f
@@ -52,13 +56,71 @@ module _ (r : Record) (top : topIndex r < 6) where
   unfolding maskAboveIndices
   zero-half z = none-any (λ h. positive (halfOf r h)) (2 * (topIndex r + 1)) (12 - 2 * (topIndex r + 1)) (λ h a b. ap positive (z h a (omega arith)))
 
+-- ---- an interval whose mask is empty
+
+pub rated-le : (r : Record) → within 1 28 (r .drn) ≡ true → r .drn ≤ 28
+rated-le r e = leb-true (r .drn) 28 (and-eq-true-iff (leb 1 (r .drn)) (leb (r .drn) 28) .0 e .1)
+
+module _ (r : Record) (i : ℕ) (h : i < 6) (e : intervalEmpty r i ≡ true) where
+  both : (within 1 28 (r .drn) ≡ true) × (eqb (size r i) 0 ≡ true)
+  unfolding intervalEmpty
+  both = and-eq-true-iff (within 1 28 (r .drn)) (eqb (size r i) 0) .0 e
+
+  -- 25 holds only where 11 does
+  pub empty-too-small : productTooSmall r ≡ true
+  unfolding productTooSmall
+  empty-too-small =
+      let z : product (sizes r) ≡ 0 = product-zero (sizes r) i (rw length-sizes h) (size-at r i h ∙ eqb-true (size r i) 0 (both .1)) in
+      ap₂ _&&_ (both .0) (lt-ltb (product (sizes r)) (2 ^ K r) (rw z (pow-pos (K r))))
+
+  module _ (lowest : (k : ℕ) → k < i → intervalEmpty r k ≡ false) where
+    empty-first : first (emptyTests r) ≡ valued 25 i
+    unfolding emptyTests emptyTest
+    empty-first = first-lowest (emptyTest r) 6 i h e lowest
+
+    -- 25 with the lowest interval is answered where no test before it applies
+    pub empty-lowest : indexTooLarge r ≡ false → grantedBelowFullRate r ≡ false → first (recordTests r) ≡ valued 25 i
+    unfolding recordTests rateTests drnTooLarge
+    empty-lowest index granted =
+        let stage = emptyTests r ++ (test 11 (productTooSmall r) ∷ []) in
+        let one : first stage ≡ valued 25 i = first-left (emptyTests r) _ (rw empty-first (lit< tt)) ∙ empty-first in
+        let two : first (stage ++ (test 12 (maskAboveIndices r) ∷ [])) ≡ valued 25 i = first-left stage _ (rw one (lit< tt)) ∙ one in
+        sym (first-skip _ _ index (first-skip _ _ (le-ltb 28 (r .drn) (rated-le r (both .0))) (first-skip _ _ granted (sym two))))
+
+-- ---- no test has the number 0
+
+module _ (r : Record) where
+  pub empty-numbered : T (numbered (emptyTests r))
+  unfolding emptyTests emptyTest listFrom
+  empty-numbered = tt
+
+  pub rate-numbered : T (numbered (rateTests r))
+  unfolding rateTests emptyTests emptyTest listFrom
+  rate-numbered = tt
+
+  pub record-numbered : T (numbered (recordTests r))
+  unfolding recordTests rateTests emptyTests emptyTest listFrom
+  record-numbered = tt
+
+  pub write-numbered : (writeShort : Bool) → T (numbered (writeTests r writeShort))
+  unfolding writeTests recordTests rateTests emptyTests emptyTest listFrom
+  write-numbered writeShort = tt
+
+  pub line-numbered : (st : LineState) (n : ℕ) → T (numbered (recordTests r ++ lineTests r st n))
+  unfolding lineTests recordTests rateTests emptyTests emptyTest listFrom
+  line-numbered st n = tt
+
+pub read-numbered : (s : List ℕ) (n : ℕ) → T (numbered (readTests s n))
+unfolding readTests rateTests emptyTests emptyTest listFrom
+read-numbered s n = tt
+
 -- ---- a call that is not refused
 
 -- whether test k of a list applies
 abbrev pub applied : List Test → ℕ → Bool
 applied ts k = getD ts k (test 0 true) .applies
 
-pub not-applied : (ts : List Test) → T (numbered ts) → first ts ≡ 0 → (k : ℕ) → k < length ts → applied ts k ≡ false
+pub not-applied : (ts : List Test) → T (numbered ts) → first ts .number ≡ 0 → (k : ℕ) → k < length ts → applied ts k ≡ false
 not-applied ts t e k h = none-at ts (none-first ts t e) k h (test 0 true)
 
 -- a call of the sender or the receiver that is not refused
@@ -74,21 +136,21 @@ pub record Passed (r : Record) (st : LineState) (n : ℕ) (readShort writeShort 
   pub enough : readShort ≡ false
   pub room : writeShort ≡ false
 
-pub passed : (r : Record) (st : LineState) (n : ℕ) (readShort writeShort : Bool) → first (frameTests r st n readShort writeShort) ≡ 0 → Passed r st n readShort writeShort
-unfolding frameTests lineTests bufferTests recordTests rateTests
+pub passed : (r : Record) (st : LineState) (n : ℕ) (readShort writeShort : Bool) → accepted (first (frameTests r st n readShort writeShort)) ≡ true → Passed r st n readShort writeShort
+unfolding frameTests lineTests bufferTests recordTests rateTests emptyTests emptyTest listFrom
 passed r st n readShort writeShort e =
-    let at = not-applied (frameTests r st n readShort writeShort) tt e in
+    let at = not-applied (frameTests r st n readShort writeShort) tt (eqb-true (first (frameTests r st n readShort writeShort) .number) 0 e) in
     record {
       index = at 0 (lit< tt);
       rate = at 1 (lit< tt);
       granted = at 2 (lit< tt);
-      carries = at 3 (lit< tt);
-      masks = at 4 (lit< tt);
-      rated = at 5 (lit< tt);
-      history = at 6 (lit< tt);
-      few = at 7 (lit< tt);
-      enough = at 8 (lit< tt);
-      room = at 9 (lit< tt);
+      carries = at 9 (lit< tt);
+      masks = at 10 (lit< tt);
+      rated = at 11 (lit< tt);
+      history = at 12 (lit< tt);
+      few = at 13 (lit< tt);
+      enough = at 14 (lit< tt);
+      room = at 15 (lit< tt);
     }
 
 -- a frame is sent or received only where the record can carry its K bits

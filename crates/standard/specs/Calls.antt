@@ -1,11 +1,12 @@
--- The five entries: a call of each as what is lent, the refusal's number (0 for none), and what is left: 'A refusal carries its number, and buffers and state are unchanged.' Assumes nothing.
+-- The five entries: a call of each as what is lent, the refusal's number (0 for none) with its value, and what is left: 'A refusal
+-- carries its number, and buffers and state are unchanged.' Assumes nothing.
 use Prim.Native.Nat.{ℕ, _*_}
 use mathlib.Core.Bool.{Bool, cond, _||_}
 use mathlib.Core.List.{List, [], _∷_, _++_, map}
 use lib.Dec.{eqb}
 use lib.IntN.{ℤ}
 use lib.ListN.{length, take, drop}
-use Rattle.standard.specs.First.{test, first}
+use Rattle.standard.specs.First.{Answer, test, first}
 use Rattle.standard.specs.Bits.{bitAt, bitsIn, bytesOf, bytesFor, nth}
 use Rattle.standard.specs.Record.{topIndex, noRecord}
 use Rattle.standard.specs.Cp.{cpLength, cpByteCount, cpBytes, recordIn}
@@ -16,9 +17,9 @@ use Rattle.standard.specs.declared.Law.{Law}
 use Rattle.standard.specs.declared.LineState.{LineState}
 use Rattle.standard.specs.declared.Record.{Record}
 
--- a call whose refusal has the number n is accepted
-abbrev pub accepted : ℕ → Bool
-accepted n = eqb n 0
+-- a call whose refusal has the number 0 is accepted
+abbrev pub accepted : Answer → Bool
+accepted a = eqb (a .number) 0
 
 -- a buffer into which these were written from its first place on: 'Bytes beyond those named are unchanged.'
 abbrev pub over : {X : Type 0} → List X → List X → List X
@@ -33,7 +34,7 @@ pub record ReadCall : Type 0 where
 abbrev pub readCall : List ℕ → ℕ → ReadCall
 readCall s n = record { bytes = s; bitCount = n }
 
-unfoldable pub readRefusal : ReadCall → ℕ
+unfoldable pub readRefusal : ReadCall → Answer
 readRefusal c = first (readTests (c .bytes) (c .bitCount))
 
 -- 'The reader returns the record'
@@ -49,7 +50,7 @@ pub record WriteCall : Type 0 where
 abbrev pub writeCall : Record → List ℕ → WriteCall
 writeCall r s = record { cp = r; bytes = s }
 
-unfoldable pub writeRefusal : WriteCall → ℕ
+unfoldable pub writeRefusal : WriteCall → Answer
 writeRefusal c = first (writeTests (c .cp) (shorter (c .bytes) (cpByteCount (topIndex (c .cp)))))
 
 -- 'the writer the bit count'
@@ -71,7 +72,7 @@ pub record SendCall : Type 0 where
 abbrev pub sendCall : Record → Law → ℕ → List ℕ → List ℕ → SendCall
 sendCall r l n bs os = record { cp = r; law = l; frames = n; bytes = bs; octets = os }
 
-unfoldable pub sendRefusal : LineState → SendCall → ℕ
+unfoldable pub sendRefusal : LineState → SendCall → Answer
 sendRefusal st c =
     first (frameTests (c .cp) st (c .frames) (shorter (c .bytes) (bytesFor (dataBits (c .cp) (c .frames)))) (shorter (c .octets) (6 * c .frames)))
 
@@ -101,7 +102,7 @@ pub record ReceiveCall : Type 0 where
 abbrev pub receiveCall : Record → Law → ℕ → List ℕ → List ℕ → List ℕ → ReceiveCall
 receiveCall r l n os bs ms = record { cp = r; law = l; frames = n; octets = os; bytes = bs; marks = ms }
 
-unfoldable pub receiveRefusal : LineState → ReceiveCall → ℕ
+unfoldable pub receiveRefusal : LineState → ReceiveCall → Answer
 receiveRefusal st c =
     first
     (frameTests (c .cp) st (c .frames) (shorter (c .octets) (6 * c .frames))
@@ -134,7 +135,7 @@ pub record LinearCall : Type 0 where
 abbrev pub linearCall : Law → List ℕ → List ℤ → LinearCall
 linearCall l os xs = record { law = l; octets = os; samples = xs }
 
-unfoldable pub linearRefusal : LinearCall → ℕ
+unfoldable pub linearRefusal : LinearCall → Answer
 linearRefusal c = first (test 17 (shorter (c .samples) (length (c .octets))) ∷ [])
 
 unfoldable pub linearSamples : LinearCall → List ℤ

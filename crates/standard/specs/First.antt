@@ -3,15 +3,30 @@ use Prim.Native.Nat.{ℕ}
 use mathlib.Core.Bool.{Bool, cond}
 use mathlib.Core.List.{List, [], _∷_}
 
--- a number, and whether it applies
-pub record Test : Type 0 where
+-- a number, and the value that it carries, 0 where it carries none
+pub record Answer : Type 0 where
   pub number : ℕ
+  pub value : ℕ
+
+abbrev pub valued : ℕ → ℕ → Answer
+valued n v = record { number = n; value = v }
+
+-- a number that carries none
+abbrev pub bare : ℕ → Answer
+bare n = valued n 0
+
+-- what is answered, and whether it applies
+pub record Test : Type 0 where
+  pub answer : Answer
   pub applies : Bool
 
-abbrev pub test : ℕ → Bool → Test
-test n b = record { number = n; applies = b }
+abbrev pub valuedTest : ℕ → ℕ → Bool → Test
+valuedTest n v b = record { answer = valued n v; applies = b }
 
--- the number of the first test that applies, and 0 where none does
-unfoldable pub first : List Test → ℕ
-first [] = 0
-first (t ∷ ts) = cond (t .applies) (t .number) (first ts)
+abbrev pub test : ℕ → Bool → Test
+test n b = valuedTest n 0 b
+
+-- the answer of the first test that applies, and the number 0 where none does
+unfoldable pub first : List Test → Answer
+first [] = bare 0
+first (t ∷ ts) = cond (t .applies) (t .answer) (first ts)

@@ -76,7 +76,7 @@ markTests r l os = outsideTests r l os ++ (test 7 (leb (2 ^ K r) (receivedNumber
 
 -- 'Mark 0 is good.' A mark is a term of document 01
 unfoldable pub mark : Record → Law → List ℕ → ℕ
-mark r l os = first (markTests r l os)
+mark r l os = first (markTests r l os) .number
 
 abbrev pub good : Record → Law → List ℕ → Bool
 good r l os = eqb (mark r l os) 0

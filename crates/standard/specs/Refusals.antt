@@ -1,47 +1,49 @@
--- Document 01, 'When the codec declines': the tests 1 to 17, each under a name, and the lists of them in the paper's order. Assumes nothing.
+-- Document 01, 'When the codec declines', and document 02, A.8: the tests 1 to 17 and 25, each under a name, and the lists of them in
+-- the papers' order. Assumes nothing.
 use Prim.Native.Nat.{ℕ, _+_, _*_, _-_, _^_}
 use mathlib.Core.Bool.{Bool, not, _&&_, _||_}
 use mathlib.Core.List.{List, [], _∷_, _++_}
 use lib.Dec.{eqb, leb, ltb}
 use lib.ListN.{length}
-use Rattle.standard.specs.Lists.{any}
-use Rattle.standard.specs.First.{Test, test}
+use Rattle.standard.specs.Lists.{listFrom, any}
+use Rattle.standard.specs.First.{Answer, bare, valued, Test, test, valuedTest}
 use Rattle.standard.specs.Bits.{positive, bitAt}
 use Rattle.standard.specs.Record.{indexOf, topIndex, halfOf, K}
 use Rattle.standard.specs.Cp.{cpLength, within, startBitSet, crcMatches, recordIn}
-use Rattle.standard.specs.Constellation.{sizes}
+use Rattle.standard.specs.Constellation.{size, sizes}
 use Rattle.standard.specs.Modulus.{product}
 use Rattle.standard.specs.declared.LineState.{LineState}
 use Rattle.standard.specs.declared.Outcome.{Outcome}
 use Rattle.standard.specs.declared.Outcome.the-variants.{Done, Refused}
 use Rattle.standard.specs.declared.Record.{Record}
 use Rattle.standard.specs.declared.Refusal.{Refusal}
-use Rattle.standard.specs.declared.Refusal.the-variants.{CountExceedsBytes, CountTooSmall, SyncBroken, IndexTooLarge, LengthWrong, StartBitSet, CrcMismatch, FixedBitWrong, DrnTooLarge, GrantedBelowFullRate, ProductTooSmall, MaskAboveIndices, FramesAtCleardown, HistoryTooLarge, TooManyFrames, InputTooShort, OutputTooShort}
+use Rattle.standard.specs.declared.Refusal.the-variants.{CountExceedsBytes, CountTooSmall, SyncBroken, IndexTooLarge, LengthWrong, StartBitSet, CrcMismatch, FixedBitWrong, DrnTooLarge, GrantedBelowFullRate, ProductTooSmall, MaskAboveIndices, FramesAtCleardown, HistoryTooLarge, TooManyFrames, InputTooShort, OutputTooShort, IntervalEmpty}
 
--- 'A refusal carries its number'
-abbrev pub refusalNumber : Refusal → ℕ
-refusalNumber CountExceedsBytes = 1
-refusalNumber CountTooSmall = 2
-refusalNumber SyncBroken = 3
-refusalNumber IndexTooLarge = 4
-refusalNumber LengthWrong = 5
-refusalNumber StartBitSet = 6
-refusalNumber CrcMismatch = 7
-refusalNumber FixedBitWrong = 8
-refusalNumber DrnTooLarge = 9
-refusalNumber GrantedBelowFullRate = 10
-refusalNumber ProductTooSmall = 11
-refusalNumber MaskAboveIndices = 12
-refusalNumber FramesAtCleardown = 13
-refusalNumber HistoryTooLarge = 14
-refusalNumber TooManyFrames = 15
-refusalNumber InputTooShort = 16
-refusalNumber OutputTooShort = 17
+-- 'A refusal carries its number'; 25 carries the interval too
+abbrev pub refusalAnswer : Refusal → Answer
+refusalAnswer CountExceedsBytes = bare 1
+refusalAnswer CountTooSmall = bare 2
+refusalAnswer SyncBroken = bare 3
+refusalAnswer IndexTooLarge = bare 4
+refusalAnswer LengthWrong = bare 5
+refusalAnswer StartBitSet = bare 6
+refusalAnswer CrcMismatch = bare 7
+refusalAnswer FixedBitWrong = bare 8
+refusalAnswer DrnTooLarge = bare 9
+refusalAnswer GrantedBelowFullRate = bare 10
+refusalAnswer ProductTooSmall = bare 11
+refusalAnswer MaskAboveIndices = bare 12
+refusalAnswer FramesAtCleardown = bare 13
+refusalAnswer HistoryTooLarge = bare 14
+refusalAnswer TooManyFrames = bare 15
+refusalAnswer InputTooShort = bare 16
+refusalAnswer OutputTooShort = bare 17
+refusalAnswer (IntervalEmpty i) = valued 25 i
 
--- the number of an outcome: 0 where nothing is refused
-abbrev pub outcomeNumber : Outcome → ℕ
-outcomeNumber Done = 0
-outcomeNumber (Refused x) = refusalNumber x
+-- the answer of an outcome: 0 where nothing is refused
+abbrev pub outcomeAnswer : Outcome → Answer
+outcomeAnswer Done = bare 0
+outcomeAnswer (Refused x) = refusalAnswer x
 
 -- ---- the tests. s is the bytes of a CP, f its bits, n a bit count
 
@@ -79,6 +81,10 @@ drnTooLarge r = ltb 28 (r .drn)
 unfoldable pub grantedBelowFullRate : Record → Bool
 grantedBelowFullRate r = r .granted && not (eqb (r .drn) 28)
 
+-- 25 (A.8). 'drn is 1 to 28 and an interval's mask is empty': interval i's
+unfoldable pub intervalEmpty : Record → ℕ → Bool
+intervalEmpty r i = within 1 28 (r .drn) && eqb (size r i) 0
+
 -- 11. 'drn is 1 to 28 and M0 × M1 × M2 × M3 × M4 × M5 is below 2^K.'
 unfoldable pub productTooSmall : Record → Bool
 productTooSmall r = within 1 28 (r .drn) && ltb (product (sizes r)) (2 ^ K r)
@@ -105,15 +111,22 @@ shorter xs needed = ltb (length xs) needed
 
 -- ---- the lists
 
--- 9 to 11
-unfoldable pub rateTests : Record → List Test
-rateTests r = test 9 (drnTooLarge r) ∷ test 10 (grantedBelowFullRate r) ∷ test 11 (productTooSmall r) ∷ []
+-- 25 for each interval, so that the first that applies has 'the lowest such interval'
+unfoldable pub emptyTest : Record → ℕ → Test
+emptyTest r i = valuedTest 25 i (intervalEmpty r i)
 
--- 'a fault in the record itself: here 4 and 9 to 12'
+unfoldable pub emptyTests : Record → List Test
+emptyTests r = listFrom (emptyTest r) 0 6
+
+-- 9, 10, 25 'checked just before 11', and 11
+unfoldable pub rateTests : Record → List Test
+rateTests r = test 9 (drnTooLarge r) ∷ test 10 (grantedBelowFullRate r) ∷ (emptyTests r ++ (test 11 (productTooSmall r) ∷ []))
+
+-- 'a fault in the record itself: here 4 and 9 to 12', and 25
 unfoldable pub recordTests : Record → List Test
 recordTests r = test 4 (indexTooLarge r) ∷ (rateTests r ++ (test 12 (maskAboveIndices r) ∷ []))
 
--- 'The reader uses 1 to 11'
+-- 'The reader uses 1 to 11', and 25
 unfoldable pub readTests : List ℕ → ℕ → List Test
 readTests s n =
     let f = bitAt s in
@@ -129,7 +142,7 @@ readTests s n =
     test 8 (fixedBitWrong f) ∷
     rateTests r
 
--- 'the writer 4, 9 to 12 and 17'
+-- 'the writer 4, 9 to 12 and 17', and 25
 unfoldable pub writeTests : Record → Bool → List Test
 writeTests r writeShort = recordTests r ++ (test 17 writeShort ∷ [])
 
@@ -141,6 +154,6 @@ lineTests r st n = test 13 (framesAtCleardown r n) ∷ test 14 (historyTooLarge 
 unfoldable pub bufferTests : Bool → Bool → List Test
 bufferTests readShort writeShort = test 16 readShort ∷ test 17 writeShort ∷ []
 
--- 'sender and receiver 4 and 9 to 17'
+-- 'sender and receiver 4 and 9 to 17', and 25
 unfoldable pub frameTests : Record → LineState → ℕ → Bool → Bool → List Test
 frameTests r st n readShort writeShort = (recordTests r ++ lineTests r st n) ++ bufferTests readShort writeShort

@@ -21,7 +21,7 @@ pub struct LineState {
     pub sign: bool,
 }
 
-// The refusals, in the order of their numbers 1 to 17.
+// The refusals 1 to 17, and 25 with the interval whose mask is empty.
 pub enum Refusal {
     CountExceedsBytes,
     CountTooSmall,
@@ -40,6 +40,7 @@ pub enum Refusal {
     TooManyFrames,
     InputTooShort,
     OutputTooShort,
+    IntervalEmpty(u8),
 }
 
 pub enum Outcome {

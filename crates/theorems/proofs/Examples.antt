@@ -7,7 +7,7 @@ use native.Mathlib.Nat.{suc-ne-zero}
 use native.Mathlib.Omega.{arith}
 use lib.Dec.{T}
 use Rattle.standard.specs.Lists.{listFrom, any, largest, parts, joined, each, after}
-use Rattle.standard.specs.First.{first}
+use Rattle.standard.specs.First.{valued, first}
 use Rattle.standard.specs.Bits.{bitAt, bitsIn, field, bytesOf, nth, numberOf, bitsOf}
 use Rattle.standard.specs.Record.{K, topIndex, inMask}
 use Rattle.standard.specs.Crc.{crcStep, crcBelow}
@@ -18,7 +18,7 @@ use Rattle.standard.specs.Modulus.{product, labels, number}
 use Rattle.standard.specs.Signs.{signsOf, signBits}
 use Rattle.standard.specs.Octets.{positiveOctet, octet, signOf, ucodeOf}
 use Rattle.standard.specs.Frame.{fresh, ucodeAt, lineBits, frameSigns, frameLabels, frameOctets, sendFrame, sendNext, receivedNumber, outsideTest, outsideTests, markTests, mark, heardBits, receiveFrame, receiveNext, sendFrames, sendAfter, receiveFrames, receiveMarks, receiveAfter}
-use Rattle.standard.specs.Refusals.{countExceedsBytes, countTooSmall, syncBroken, indexTooLarge, lengthWrong, fixedBitWrong, drnTooLarge, grantedBelowFullRate, productTooSmall, maskAboveIndices, rateTests, recordTests, readTests}
+use Rattle.standard.specs.Refusals.{countExceedsBytes, countTooSmall, syncBroken, indexTooLarge, lengthWrong, fixedBitWrong, drnTooLarge, grantedBelowFullRate, intervalEmpty, productTooSmall, maskAboveIndices, emptyTest, emptyTests, rateTests, recordTests, readTests}
 use Rattle.standard.specs.Calls.{readRefusal}
 use Rattle.standard.specs.declared.Law.{Law}
 use Rattle.standard.proofs.Lists.{every, every-at, T→true}
@@ -26,10 +26,10 @@ use Rattle.standard.proofs.Constellation.{label-below}
 use Rattle.standard.proofs.Modulus.{within-listFrom, number-lt}
 use Rattle.standard.proofs.Octets.{ucode-lt}
 use Rattle.standard.proofs.Frame.{mark-zero}
-use Rattle.theorems.specs.Examples.{all, table, full, ExamplesHold}
+use Rattle.theorems.specs.Examples.{all, table, full, emptyTwice, ExamplesHold}
 
 rows-hold : all table ≡ true
-unfolding table listFrom any largest parts joined each after first bitAt bitsIn field bytesOf nth numberOf bitsOf topIndex inMask crcStep crcBelow bitIn headFields maskFields cpBody crcField cpBit cpBytes maskBitIn halfIn recordIn crcMatches startBitSet taps push pushAll scramble descramble sizeOf labelOf pointOf member sizes product labels number signsOf signBits positiveOctet octet signOf ucodeOf fresh lineBits frameSigns frameLabels frameOctets sendFrame sendNext receivedNumber outsideTest outsideTests markTests mark heardBits receiveFrame receiveNext sendFrames sendAfter receiveFrames receiveMarks receiveAfter countExceedsBytes countTooSmall syncBroken indexTooLarge lengthWrong fixedBitWrong drnTooLarge grantedBelowFullRate productTooSmall maskAboveIndices rateTests recordTests readTests readRefusal
+unfolding table listFrom any largest parts joined each after first bitAt bitsIn field bytesOf nth numberOf bitsOf topIndex inMask crcStep crcBelow bitIn headFields maskFields cpBody crcField cpBit cpBytes maskBitIn halfIn recordIn crcMatches startBitSet taps push pushAll scramble descramble sizeOf labelOf pointOf member sizes product labels number signsOf signBits positiveOctet octet signOf ucodeOf fresh lineBits frameSigns frameLabels frameOctets sendFrame sendNext receivedNumber outsideTest outsideTests markTests mark heardBits receiveFrame receiveNext sendFrames sendAfter receiveFrames receiveMarks receiveAfter countExceedsBytes countTooSmall syncBroken indexTooLarge lengthWrong fixedBitWrong drnTooLarge grantedBelowFullRate intervalEmpty productTooSmall maskAboveIndices emptyTest emptyTests rateTests recordTests readTests readRefusal
 rows-hold = refl
 
 -- ---- B10: with full masks every Ucode belongs, and the labels of any six form a number below 2^42
@@ -53,5 +53,9 @@ never l os =
     (number-lt (sizes full) (listFrom (λ i. label full i (ucodeAt l os i)) 0 6)
     (within-listFrom (size full) (λ i. label full i (ucodeAt l os i)) 0 6 (λ i a b. label-below (member full i) 128 (ucodeAt l os i) (ucode-lt l _) (belong i (ucodeAt l os i) (omega arith) (ucode-lt l _))))))
 
+lowest-empty : first (recordTests emptyTwice) ≡ valued 25 2
+unfolding first recordTests rateTests emptyTests emptyTest indexTooLarge drnTooLarge grantedBelowFullRate intervalEmpty any listFrom sizeOf member inMask
+lowest-empty = refl
+
 pub examples : ExamplesHold
-examples = record { rows = rows-hold; neverSeven = λ l os e. suc-ne-zero 6 (sym e ∙ never l os) }
+examples = record { rows = rows-hold; neverSeven = λ l os e. suc-ne-zero 6 (sym e ∙ never l os); lowestEmpty = lowest-empty }

@@ -18,7 +18,7 @@ use Rattle.standard.specs.Modulus.{product, labels, number}
 use Rattle.standard.specs.Signs.{signsOf, signBits}
 use Rattle.standard.specs.Octets.{positiveOctet, octet, signOf, ucodeOf}
 use Rattle.standard.specs.Frame.{fresh, lineBits, frameSigns, frameLabels, frameOctets, sendFrame, sendNext, receivedNumber, outsideTest, outsideTests, markTests, mark, heardBits, receiveFrame, receiveNext, sendFrames, sendAfter, receiveFrames, receiveMarks, receiveAfter}
-use Rattle.standard.specs.Refusals.{indexTooLarge, drnTooLarge, grantedBelowFullRate, productTooSmall, maskAboveIndices, framesAtCleardown, historyTooLarge, tooManyFrames, rateTests, recordTests, lineTests, bufferTests, frameTests}
+use Rattle.standard.specs.Refusals.{indexTooLarge, drnTooLarge, grantedBelowFullRate, intervalEmpty, productTooSmall, maskAboveIndices, framesAtCleardown, historyTooLarge, tooManyFrames, emptyTest, emptyTests, rateTests, recordTests, lineTests, bufferTests, frameTests}
 use Rattle.standard.specs.Calls.{SendCall, sendRefusal, sendBits, sendLeft, sendOctets, ReceiveCall, receiveRefusal, receiveOctets, receiveLeft, receiveBytes, receiveMarked}
 use Rattle.standard.specs.declared.Law.the-variants.{Mu, A}
 use Rattle.theorems.specs.Examples.{common, full, state}
@@ -60,7 +60,7 @@ past a b c d e h xs (suc i) k l =
 
 -- all of demand 3's premises; the altered frame gets a mark, the others none
 instance : Run common Mu fresh (state 77 true) sending receiving (frames 0 0) delivered 3 × (marksGiven (state 77 true) receiving ≡ 2 ∷ 0 ∷ 0 ∷ [])
-unfolding listFrom any largest parts joined each after first bitAt bitsIn field bytesOf nth numberOf bitsOf topIndex inMask taps push pushAll scramble descramble sizeOf labelOf pointOf member sizes product labels number signsOf signBits positiveOctet octet signOf ucodeOf fresh lineBits frameSigns frameLabels frameOctets sendFrame sendNext receivedNumber outsideTest outsideTests markTests mark heardBits receiveFrame receiveNext sendFrames sendAfter receiveFrames receiveMarks receiveAfter indexTooLarge drnTooLarge grantedBelowFullRate productTooSmall maskAboveIndices framesAtCleardown historyTooLarge tooManyFrames rateTests recordTests lineTests bufferTests frameTests sendRefusal sendBits sendLeft sendOctets receiveRefusal receiveOctets receiveLeft receiveBytes receiveMarked overCalls AllCalls sent octetsRead marksGiven SendsWith ReceivesWith Carried
+unfolding listFrom any largest parts joined each after first bitAt bitsIn field bytesOf nth numberOf bitsOf topIndex inMask taps push pushAll scramble descramble sizeOf labelOf pointOf member sizes product labels number signsOf signBits positiveOctet octet signOf ucodeOf fresh lineBits frameSigns frameLabels frameOctets sendFrame sendNext receivedNumber outsideTest outsideTests markTests mark heardBits receiveFrame receiveNext sendFrames sendAfter receiveFrames receiveMarks receiveAfter indexTooLarge drnTooLarge grantedBelowFullRate intervalEmpty productTooSmall maskAboveIndices framesAtCleardown historyTooLarge tooManyFrames emptyTest emptyTests rateTests recordTests lineTests bufferTests frameTests sendRefusal sendBits sendLeft sendOctets receiveRefusal receiveOctets receiveLeft receiveBytes receiveMarked overCalls AllCalls sent octetsRead marksGiven SendsWith ReceivesWith Carried
 instance = (
   record {
     sender = (λ e. (refl, refl), (λ e. (refl, refl), (λ e. absurd (wrong e), (λ e. (refl, refl), tt))));

@@ -6,3 +6,4 @@ pub mod Examples
 pub mod WriteRead
 pub mod ReadWrite
 pub mod Instance
+pub mod Empty

@@ -3,28 +3,28 @@ use mathlib.Core.Path.{_≡_, refl, sym, ap, ap₂, _∙_, subst}
 use mathlib.Core.Logic.{_⊎_, inl, inr}
 use Prim.Native.Nat.{ℕ, zero, suc, _+_, _-_, _*_, _/_, _%_, _≤_, _<_, zero-le}
 use mathlib.Core.Bool.{Bool, true, false, cond, not, _&&_, _||_}
-use mathlib.Core.List.{List, [], _∷_}
+use mathlib.Core.List.{List, [], _∷_, _++_}
 use native.Mathlib.Decide.{decLe, decLt, ℕ-discrete as decEq}
 use native.Mathlib.Nat.{div-one}
 use native.Mathlib.Omega.{arith}
-use borrow.Author.Tests.{ltb-false, lt-ltb, le-ltb, le-leb, lt-leb, leb-true, eqb-true, eq-eqb, not-false}
+use borrow.Author.Tests.{ltb-false, lt-ltb, le-ltb, le-leb, lt-leb, leb-true, eqb-true, not-false}
 use lib.Dec.{T, lit<, eqb, leb, ltb}
 use lib.ListN.{length, getD, take}
 use Rattle.standard.specs.Lists.{any, largest}
-use Rattle.standard.specs.First.{first}
+use Rattle.standard.specs.First.{bare, test, first}
 use Rattle.standard.specs.Bits.{weight, odd, bit, bitAt, field}
 use Rattle.standard.specs.Record.{indexOf, topIndex, halfOf, inMask}
 use Rattle.standard.specs.Crc.{crcBelow}
 use Rattle.standard.specs.Cp.{gamma, cpLength, cpByteCount, runPlace, Field, covers, bitIn, headFields, cpBody, cpBit, cpBytes, indexIn, maskBitIn, halfIn, recordIn, crcMatches, startBitSet, within, reserved, ignored}
-use Rattle.standard.specs.Refusals.{shorter, countExceedsBytes, syncBroken, lengthWrong, fixedBitWrong, rateTests, recordTests, readTests, writeTests}
-use Rattle.standard.specs.Calls.{over, readRefusal, readRecord, writeRefusal, writeBytes}
+use Rattle.standard.specs.Refusals.{shorter, countExceedsBytes, syncBroken, lengthWrong, fixedBitWrong, maskAboveIndices, rateTests, recordTests, readTests, writeTests}
+use Rattle.standard.specs.Calls.{accepted, over, readRefusal, readRecord, writeRefusal, writeBytes}
 use Rattle.standard.specs.declared.Record.{Record}
 use Rattle.standard.proofs.Lists.{getD-list, any-none, or-none, every, every-at, T→true, largest-ext}
-use Rattle.standard.proofs.First.{first-none}
+use Rattle.standard.proofs.First.{None, first-none, none-first, none-at, none-append}
 use Rattle.standard.proofs.Bits.{odd-weight, field-bit, bytesOf-ext, bytes-back}
 use Rattle.standard.proofs.Crc.{crcBelow-ext}
 use Rattle.standard.proofs.Cp.{covered, cp-body, cp-head, cp-mask, cp-crc, cp-zero}
-use Rattle.standard.proofs.Refusals.{top-lt, zero-half, applied, not-applied}
+use Rattle.standard.proofs.Refusals.{top-lt, zero-half, read-numbered, applied}
 use Rattle.theorems.specs.RoundTrip.{ReadThenWrite}
 
 or-true : (a b : Bool) → T (a || b) → (a ≡ true) ⊎ (T b)
@@ -52,7 +52,7 @@ module _ (f : ℕ → Bool) where
       go ih (yes l) (no h) = let c : covers x n ≡ false = ap₂ _&&_ (le-leb (x .at) n l) (le-ltb n (x .at + x .width) (omega arith)) in rw c (ih (λ q. z (none c q)))
       go ih (no l) d = let c : covers x n ≡ false = ap (λ (b : Bool). b && ltb n (x .at + x .width)) (lt-leb (x .at) n (omega arith)) in rw c (ih (λ q. z (none c q)))
 
-module _ (s : List ℕ) (n : ℕ) (ok : first (readTests s n) ≡ 0) where
+module _ (s : List ℕ) (n : ℕ) (ok : first (readTests s n) .number ≡ 0) where
   abbrev f : ℕ → Bool
   f = bitAt s
 
@@ -62,40 +62,48 @@ module _ (s : List ℕ) (n : ℕ) (ok : first (readTests s n) ≡ 0) where
   abbrev g : ℕ
   g = topIndex r
 
-  passed : (k : ℕ) → k < 11 → applied (readTests s n) k ≡ false
-  unfolding readTests rateTests
-  passed = not-applied (readTests s n) tt ok
+  passed : None (readTests s n)
+  passed = none-first (readTests s n) (read-numbered s n) ok
+
+  -- none of 1 to 8 applies
+  not-read : (k : ℕ) → k < 8 → applied (readTests s n) k ≡ false
+  unfolding readTests
+  not-read k h = none-at (readTests s n) passed k (omega arith) (test 0 true)
+
+  rates : None (rateTests r)
+  unfolding readTests
+  rates = passed .1 .1 .1 .1 .1 .1 .1 .1
 
   top : g < 6
   unfolding readTests
-  top = top-lt r (passed 3 (lit< tt))
+  top = top-lt r (not-read 3 (lit< tt))
 
   count-is : n ≡ cpLength g
   unfolding readTests lengthWrong
-  count-is = eqb-true n (cpLength g) (not-false _ (passed 4 (lit< tt)))
+  count-is = eqb-true n (cpLength g) (not-false _ (not-read 4 (lit< tt)))
 
   long : cpByteCount g ≤ length s
   unfolding readTests countExceedsBytes
-  long = omega (arith, ltb-false (8 * length s) n (passed 0 (lit< tt)), count-is)
+  long = omega (arith, ltb-false (8 * length s) n (not-read 0 (lit< tt)), count-is)
 
   sync-one : (k : ℕ) → k < 17 → f k ≡ true
   unfolding readTests syncBroken
-  sync-one k h = not-false (f k) (any-none (λ k. not (f k)) 0 17 (passed 2 (lit< tt)) k zero-le (omega arith))
+  sync-one k h = not-false (f k) (any-none (λ k. not (f k)) 0 17 (not-read 2 (lit< tt)) k zero-le (omega arith))
 
   start-zero : (k : ℕ) → 17 ≤ k → k ≤ 272 + gamma g → k % 17 ≡ 0 → f k ≡ false
   unfolding readTests startBitSet
   start-zero k a b e =
       let z : 17 * (k / 17) ≡ k = omega arith in
-      ap f (sym z) ∙ any-none (λ i. f (17 * i)) 1 (16 + 8 * g) (passed 5 (lit< tt)) (k / 17) (omega arith) (omega arith)
+      ap f (sym z) ∙ any-none (λ i. f (17 * i)) 1 (16 + 8 * g) (not-read 5 (lit< tt)) (k / 17) (omega arith) (omega arith)
 
   crc-same : crcBelow f (272 + gamma g) ≡ field f (273 + gamma g) 16
   unfolding readTests crcMatches
-  crc-same = eqb-true _ _ (not-false _ (passed 6 (lit< tt)))
+  crc-same = eqb-true _ _ (not-false _ (not-read 6 (lit< tt)))
 
   fixed : (f 19 ≡ true) × (((k : ℕ) → 30 ≤ k → k < 33 → f k ≡ false) × (f 128 ≡ false))
   unfolding readTests fixedBitWrong
   fixed =
-      let a = or-none (not (f 19) || any f 30 3) (f 128) (passed 7 (lit< tt)) in
+      let a = or-none (not (f 19) || any f 30 3) (f 128) (not-read 7 (lit< tt)) in
       let b = or-none (not (f 19)) (any f 30 3) (a .0) in
       (not-false (f 19) (b .0), (any-none f 30 3 (b .1), a .1))
 
@@ -243,25 +251,28 @@ module _ (s : List ℕ) (n : ℕ) (ok : first (readTests s n) ≡ 0) where
     unfolding cpBytes
     same-bytes b = bytesOf-ext (cpByteCount g) (cpBit r) f bits ∙ bytes-back (cpByteCount g) s b long
 
-  write-none : (short : Bool) → short ≡ false → first (writeTests r short) ≡ 0
-  unfolding writeTests recordTests rateTests readTests
+  write-none : (short : Bool) → short ≡ false → first (writeTests r short) ≡ bare 0
+  unfolding writeTests recordTests readTests
   write-none short e =
-      first-none (writeTests r short)
-      (passed 3 (lit< tt), (passed 8 (lit< tt), (passed 9 (lit< tt), (passed 10 (lit< tt), (zero-half r top high-zero, (e, tt))))))
+      let above = test 12 (maskAboveIndices r) ∷ [] in
+      first-none (writeTests r short) (
+        not-read 3 (lit< tt),
+        none-append (rateTests r ++ above) (test 17 short ∷ []) (none-append (rateTests r) above rates (zero-half r top high-zero, tt)) (e, tt),
+      )
 
 -- what is to be shown of the record x that was read
 abbrev Back : List ℕ → Record → Type 0
 Back s x =
     ((k : ℕ) → k < 8 * cpByteCount (topIndex x) → ignored (topIndex x) k ≡ true → bitAt s k ≡ false)
     → (buffer : List ℕ) → cpByteCount (topIndex x) ≤ length buffer
-    → (writeRefusal (record { cp = x; bytes = buffer }) ≡ 0) × (writeBytes (record { cp = x; bytes = buffer }) ≡ over (take (cpByteCount (topIndex x)) s) buffer)
+    → (accepted (writeRefusal (record { cp = x; bytes = buffer })) ≡ true) × (writeBytes (record { cp = x; bytes = buffer }) ≡ over (take (cpByteCount (topIndex x)) s) buffer)
 
-back : (s : List ℕ) (n : ℕ) → ((i : ℕ) → getD s i 0 < 256) → first (readTests s n) ≡ 0 → Back s (recordIn (bitAt s))
+back : (s : List ℕ) (n : ℕ) → ((i : ℕ) → getD s i 0 < 256) → first (readTests s n) .number ≡ 0 → Back s (recordIn (bitAt s))
 unfolding writeRefusal writeBytes
 back s n bytes ok zeros buffer h =
-    let none = write-none s n ok (shorter buffer (cpByteCount (topIndex (recordIn (bitAt s))))) (le-ltb (length buffer) (cpByteCount (topIndex (recordIn (bitAt s)))) h) in
-    (none, rw (eq-eqb _ 0 none) (ap (λ (x : List ℕ). over x buffer) (same-bytes s n ok zeros bytes)))
+    let none = ap accepted (write-none s n ok (shorter buffer (cpByteCount (topIndex (recordIn (bitAt s))))) (le-ltb (length buffer) (cpByteCount (topIndex (recordIn (bitAt s)))) h)) in
+    (none, rw none (ap (λ (x : List ℕ). over x buffer) (same-bytes s n ok zeros bytes)))
 
 pub read-then-write : ReadThenWrite
 unfolding readRefusal readRecord
-read-then-write c bytes ok = subst (Back (c .bytes)) (sym (rw (eq-eqb (readRefusal c) 0 ok))) (back (c .bytes) (c .bitCount) bytes ok)
+read-then-write c bytes ok = subst (Back (c .bytes)) (sym (rw ok)) (back (c .bytes) (c .bitCount) bytes (eqb-true _ 0 ok))

@@ -1,37 +1,37 @@
 -- Writing then reading returns the record. Assumes nothing.
-use mathlib.Core.Path.{_≡_, refl, sym, ap, ap₂, _∙_}
+use mathlib.Core.Path.{_≡_, refl, sym, ap, ap₂, subst, _∙_}
 use mathlib.Core.Logic.{inl}
 use Prim.Native.Nat.{ℕ, zero, suc, _+_, _-_, _*_, _/_, _%_, _^_, _≤_, _<_}
 use mathlib.Core.Bool.{Bool, true, false, not}
-use mathlib.Core.List.{List, _++_}
+use mathlib.Core.List.{List, [], _∷_, _++_}
 use native.Mathlib.Decide.{decLe}
 use native.Mathlib.Nat.{div-one, mod-eq-of-lt}
 use native.Mathlib.Omega.{arith}
-use borrow.Author.Tests.{ltb-false, le-ltb, le-leb, lt-leb, eq-eqb, not-true}
+use borrow.Author.Tests.{ltb-false, le-ltb, le-leb, lt-leb, eqb-true, eq-eqb, not-true}
 use lib.Dec.{T, lit<, lit≤, eqb}
 use lib.ListN.{length, drop, length-append}
 use Rattle.standard.specs.Lists.{listFrom, any, largest}
-use Rattle.standard.specs.First.{first}
+use Rattle.standard.specs.First.{bare, test, first}
 use Rattle.standard.specs.Bits.{weight, bit, bitAt, field}
 use Rattle.standard.specs.Record.{indexOf, topIndex, halfOf, inMask}
 use Rattle.standard.specs.Crc.{crcBelow}
 use Rattle.standard.specs.Cp.{gamma, cpLength, cpByteCount, runPlace, bitIn, headFields, cpBody, cpBit, cpBytes, indexIn, maskBitIn, halfIn, recordIn, crcMatches, startBitSet}
-use Rattle.standard.specs.Refusals.{countExceedsBytes, countTooSmall, syncBroken, indexTooLarge, lengthWrong, fixedBitWrong, drnTooLarge, grantedBelowFullRate, productTooSmall, maskAboveIndices, rateTests, recordTests, readTests, writeTests}
-use Rattle.standard.specs.Calls.{readRefusal, readRecord, writeRefusal, writeBitCount, writeBytes}
+use Rattle.standard.specs.Refusals.{countExceedsBytes, countTooSmall, syncBroken, indexTooLarge, lengthWrong, fixedBitWrong, drnTooLarge, maskAboveIndices, rateTests, recordTests, readTests, writeTests}
+use Rattle.standard.specs.Calls.{accepted, readRefusal, readRecord, writeRefusal, writeBitCount, writeBytes}
 use Rattle.standard.specs.declared.Record.{Record}
 use Rattle.standard.proofs.Lists.{listFrom-is, none-any, every, every-at, T→true, largest-ext}
-use Rattle.standard.proofs.First.{first-none}
+use Rattle.standard.proofs.First.{None, first-none, none-first, none-split}
 use Rattle.standard.proofs.Bits.{field-ext, field-is, field-number, bitAt-bytes, length-bytesOf}
 use Rattle.standard.proofs.Crc.{crcBelow-lt, crcBelow-ext}
 use Rattle.standard.proofs.Cp.{covered, bitIn-none, cp-body, cp-head, cp-mask, cp-crc, cp-zero}
-use Rattle.standard.proofs.Refusals.{index-le, top-lt, half-zero, applied, not-applied}
+use Rattle.standard.proofs.Refusals.{index-le, top-lt, half-zero, write-numbered}
 use Rattle.theorems.specs.RoundTrip.{Shaped, WriteThenRead}
 
 bit-weight : (b : Bool) → bit (weight b) 0 ≡ b
 bit-weight true = refl
 bit-weight false = refl
 
-module _ (r : Record) (shaped : Shaped r) (short : Bool) (ok : first (writeTests r short) ≡ 0) (t : List ℕ) where
+module _ (r : Record) (shaped : Shaped r) (short : Bool) (ok : first (writeTests r short) .number ≡ 0) (t : List ℕ) where
   abbrev g : ℕ
   g = topIndex r
 
@@ -41,24 +41,29 @@ module _ (r : Record) (shaped : Shaped r) (short : Bool) (ok : first (writeTests
   abbrev f : ℕ → Bool
   f = bitAt s
 
-  passed : (k : ℕ) → k < 6 → applied (writeTests r short) k ≡ false
-  unfolding writeTests recordTests rateTests
-  passed = not-applied (writeTests r short) tt ok
+  passed : None (writeTests r short)
+  passed = none-first (writeTests r short) (write-numbered r short) ok
 
   index : indexTooLarge r ≡ false
   unfolding writeTests recordTests
-  index = passed 0 (lit< tt)
+  index = passed .0
+
+  rates-above : None (rateTests r ++ (test 12 (maskAboveIndices r) ∷ []))
+  unfolding writeTests recordTests
+  rates-above = none-split (rateTests r ++ (test 12 (maskAboveIndices r) ∷ [])) (test 17 short ∷ []) (passed .1) .0
+
+  rates : None (rateTests r)
+  rates = none-split (rateTests r) (test 12 (maskAboveIndices r) ∷ []) rates-above .0
 
   top : g < 6
   top = top-lt r index
 
   drn-le : r .drn ≤ 28
-  unfolding writeTests recordTests rateTests drnTooLarge
-  drn-le = ltb-false 28 (r .drn) (passed 1 (lit< tt))
+  unfolding rateTests drnTooLarge
+  drn-le = ltb-false 28 (r .drn) (rates .0)
 
   above : maskAboveIndices r ≡ false
-  unfolding writeTests recordTests rateTests
-  above = passed 4 (lit< tt)
+  above = none-split (rateTests r) (test 12 (maskAboveIndices r) ∷ []) rates-above .1 .0
 
   bit-is : (n : ℕ) → n < 8 * cpByteCount g → f n ≡ cpBit r n
   unfolding cpBytes
@@ -157,8 +162,8 @@ module _ (r : Record) (shaped : Shaped r) (short : Bool) (ok : first (writeTests
   unfolding fixedBitWrong any bitIn headFields
   fixed = rw (head-bit 19 (lit< tt), head-bit 30 (lit< tt), head-bit 31 (lit< tt), head-bit 32 (lit< tt), head-bit 128 (lit< tt))
 
-  read-none : first (readTests s (cpLength g)) ≡ 0
-  unfolding readTests rateTests writeTests recordTests countExceedsBytes countTooSmall lengthWrong
+  read-none : first (readTests s (cpLength g)) ≡ bare 0
+  unfolding readTests countExceedsBytes countTooSmall lengthWrong
   read-none =
       let e : topIndex (recordIn f) ≡ g = ap topIndex record-is in
       first-none (readTests s (cpLength g)) (
@@ -177,16 +182,7 @@ module _ (r : Record) (shaped : Shaped r) (short : Bool) (ok : first (writeTests
                     ap (λ (x : ℕ). not (crcMatches f x)) e ∙ ap not crc,
                     (
                       fixed,
-                      (
-                        ap drnTooLarge record-is ∙ passed 1 (lit< tt),
-                        (
-                          ap grantedBelowFullRate record-is ∙ passed 2 (lit< tt),
-                          (
-                            ap productTooSmall record-is ∙ passed 3 (lit< tt),
-                            tt,
-                          ),
-                        ),
-                      ),
+                      subst (λ (x : Record). None (rateTests x)) (sym record-is) rates,
                     ),
                   ),
                 ),
@@ -200,5 +196,6 @@ pub write-then-read : WriteThenRead
 unfolding writeRefusal writeBytes writeBitCount readRefusal readRecord
 write-then-read c shaped ok =
     let t = drop (length (cpBytes (c .cp))) (c .bytes) in
-    let none = read-none (c .cp) shaped _ ok t in
-    rw (eq-eqb _ 0 ok) (none, rw (eq-eqb _ 0 none) (record-is (c .cp) shaped _ ok t))
+    let number = eqb-true _ 0 ok in
+    let none = ap accepted (read-none (c .cp) shaped _ number t) in
+    rw ok (none, rw none (record-is (c .cp) shaped _ number t))

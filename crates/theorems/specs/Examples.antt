@@ -1,11 +1,11 @@
--- Document 01, 'Bench examples': B1 to B12 as one table and one statement. Assumes nothing.
+-- Document 01, 'Bench examples': B1 to B12 as one table and one statement; an example of document 02 beside it. Assumes nothing.
 use mathlib.Core.Path.{_≡_}
 use Prim.Native.Nat.{ℕ, suc, _+_, _-_}
 use mathlib.Core.Bool.{Bool, true, false, not, _&&_}
 use mathlib.Core.List.{List, [], _∷_}
 use lib.Dec.{eqb}
 use lib.ListN.{drop, replicate}
-use Rattle.standard.specs.First.{first}
+use Rattle.standard.specs.First.{valued, first}
 use Rattle.standard.specs.Bits.{numberOf}
 use Rattle.standard.specs.Record.{K, topIndex}
 use Rattle.standard.specs.Cp.{gamma, cpLength, cpBytes}
@@ -78,13 +78,17 @@ fiveOnce = twoMasks 1 0 63 31 (0 ∷ 0 ∷ 0 ∷ 0 ∷ 0 ∷ 1 ∷ [])
 abbrev pub fiveTwice : Record
 fiveTwice = twoMasks 1 0 63 31 (0 ∷ 0 ∷ 0 ∷ 0 ∷ 1 ∷ 1 ∷ [])
 
--- the refusal of a record for a fault in itself, 0 for none
+-- the common masks, but an empty one in intervals 2 and 4
+abbrev pub emptyTwice : Record
+emptyTwice = twoMasks 1 0 63 0 (0 ∷ 0 ∷ 1 ∷ 0 ∷ 1 ∷ 0 ∷ [])
+
+-- the refusal's number of a record for a fault in itself, 0 for none
 abbrev pub fault : Record → ℕ
-fault r = first (recordTests r)
+fault r = first (recordTests r) .number
 
 -- the CP of a record with g = 1, read with a bit count
 abbrev pub readWith : ℕ → ℕ
-readWith n = readRefusal (record { bytes = cpBytes fiveOnce; bitCount = n })
+readWith n = readRefusal (record { bytes = cpBytes fiveOnce; bitCount = n }) .number
 
 -- ---- the table
 
@@ -130,3 +134,5 @@ pub record ExamplesHold : Type 0 where
   pub rows : all table ≡ true
   -- B10: 'mark 7 never occurs', whatever the octets
   pub neverSeven : (l : Law) (os : List ℕ) → mark full l os ≡ 7 → ⊥
+  -- A.8: 25 'with the lowest such interval'
+  pub lowestEmpty : first (recordTests emptyTwice) ≡ valued 25 2

@@ -1,3 +1,4 @@
 pub mod Runs
 pub mod Examples
 pub mod RoundTrip
+pub mod Empty

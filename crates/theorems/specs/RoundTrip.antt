@@ -7,7 +7,7 @@ use lib.ListN.{length, getD, take}
 use Rattle.standard.specs.Bits.{bitAt}
 use Rattle.standard.specs.Record.{topIndex, halfOf}
 use Rattle.standard.specs.Cp.{cpByteCount, ignored}
-use Rattle.standard.specs.Calls.{over, ReadCall, readRefusal, readRecord, WriteCall, writeRefusal, writeBitCount, writeBytes}
+use Rattle.standard.specs.Calls.{accepted, over, ReadCall, readRefusal, readRecord, WriteCall, writeRefusal, writeBitCount, writeBytes}
 use Rattle.standard.specs.declared.Record.{Record}
 
 -- what the type Record says of its arrays: [u8; 6] and [u64; 12]
@@ -21,7 +21,9 @@ abbrev pub readBack : WriteCall → ReadCall
 readBack c = record { bytes = writeBytes c; bitCount = writeBitCount c }
 
 abbrev pub WriteThenRead : Type 0
-WriteThenRead = (c : WriteCall) → Shaped (c .cp) → writeRefusal c ≡ 0 → (readRefusal (readBack c) ≡ 0) × (readRecord (readBack c) ≡ c .cp)
+WriteThenRead =
+    (c : WriteCall) → Shaped (c .cp) → accepted (writeRefusal c) ≡ true
+    → (accepted (readRefusal (readBack c)) ≡ true) × (readRecord (readBack c) ≡ c .cp)
 
 -- what a call of the reader answered, handed to the writer with a buffer
 abbrev pub writeBack : ReadCall → List ℕ → WriteCall
@@ -32,7 +34,7 @@ readTop c = topIndex (readRecord c)
 
 abbrev pub ReadThenWrite : Type 0
 ReadThenWrite =
-    (c : ReadCall) → ((i : ℕ) → getD (c .bytes) i 0 < 256) → readRefusal c ≡ 0
+    (c : ReadCall) → ((i : ℕ) → getD (c .bytes) i 0 < 256) → accepted (readRefusal c) ≡ true
     → ((n : ℕ) → n < 8 * cpByteCount (readTop c) → ignored (readTop c) n ≡ true → bitAt (c .bytes) n ≡ false)
     → (buffer : List ℕ) → cpByteCount (readTop c) ≤ length buffer
-    → (writeRefusal (writeBack c buffer) ≡ 0) × (writeBytes (writeBack c buffer) ≡ over (take (cpByteCount (readTop c)) (c .bytes)) buffer)
+    → (accepted (writeRefusal (writeBack c buffer)) ≡ true) × (writeBytes (writeBack c buffer) ≡ over (take (cpByteCount (readTop c)) (c .bytes)) buffer)

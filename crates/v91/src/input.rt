@@ -109,8 +109,8 @@ pub(crate) fn load_argument(i: usize) -> Loaded {
 }
 
 // Says a refusal on standard error.
-pub(crate) fn complain_refusal(number: u8) {
+pub(crate) fn complain_refusal(code: u32) {
     let mut text = [0u8; 256];
-    let at = add_refusal(&mut text, 0, number);
+    let at = add_refusal(&mut text, 0, code);
     complain_text(&text, at);
 }

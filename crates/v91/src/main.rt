@@ -92,13 +92,13 @@ fn describe_cp() {
     let read = loaded.read;
     let outcome = read.outcome;
     let r = read.record;
-    let number = answer::number_of(outcome);
+    let code = answer::code_of(outcome);
     let mut text = [0u8; 8192];
-    if number == 0 {
+    if code == 0 {
         let at = add_record(&mut text, 0, r, loaded.bit_count);
         write_text(&text, at);
     } else {
-        let at = add_refusal(&mut text, 0, number);
+        let at = add_refusal(&mut text, 0, code);
         let at = words::add(&mut text, at, b"\n");
         write_text(&text, at);
     }
@@ -113,10 +113,10 @@ fn stream_with(law: Law, sends: bool) {
     let read = loaded.read;
     let outcome = read.outcome;
     let r = read.record;
-    let number = answer::number_of(outcome);
-    if number != 0 {
+    let code = answer::code_of(outcome);
+    if code != 0 {
         complain(b"the CP file is refused");
-        complain_refusal(number);
+        complain_refusal(code);
         return;
     }
     stream::run(r, law, sends);

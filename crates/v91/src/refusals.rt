@@ -3,7 +3,7 @@ use crate::words::add;
 use crate::words::add_decimal;
 
 // Adds the sentence of a refusal from 1 to 8.
-fn add_reader_sentence(text: &mut [u8], at: usize, number: u8) -> usize {
+fn add_reader_sentence(text: &mut [u8], at: usize, number: u32) -> usize {
     match number {
         1 => add(text, at, b"The bit count exceeds 8 x the bytes lent."),
         2 => add(text, at, b"The bit count is below 294."),
@@ -17,7 +17,7 @@ fn add_reader_sentence(text: &mut [u8], at: usize, number: u8) -> usize {
 }
 
 // Adds the sentence of a refusal from 9 to 17.
-fn add_call_sentence(text: &mut [u8], at: usize, number: u8) -> usize {
+fn add_call_sentence(text: &mut [u8], at: usize, number: u32) -> usize {
     match number {
         9 => add(text, at, b"drn exceeds 28."),
         10 => add(text, at, b"Granted is 1 and drn is not 28."),
@@ -35,13 +35,24 @@ fn add_call_sentence(text: &mut [u8], at: usize, number: u8) -> usize {
     }
 }
 
-// Adds a refusal: its number and its sentence.
-pub(crate) fn add_refusal(text: &mut [u8], at: usize, number: u8) -> usize {
+// Adds the sentence of refusal 25, which names the interval.
+fn add_empty_sentence(text: &mut [u8], at: usize, interval: u32) -> usize {
+    let at = add(text, at, b"The mask of interval ");
+    let at = add_decimal(text, at, interval as u64);
+    add(text, at, b" is empty.")
+}
+
+// Adds a refusal, handed in as one number: the papers' number and the sentence.
+pub(crate) fn add_refusal(text: &mut [u8], at: usize, code: u32) -> usize {
+    let number = code % 256;
     let at = add(text, at, b"refusal ");
     let at = add_decimal(text, at, number as u64);
     let at = add(text, at, b": ");
     if number < 9 {
         return add_reader_sentence(text, at, number);
+    }
+    if number == 25 {
+        return add_empty_sentence(text, at, code / 0x100_0000);
     }
     add_call_sentence(text, at, number)
 }

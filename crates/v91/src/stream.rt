@@ -95,9 +95,9 @@ fn send_some(r: Record, law: Law, s: Stream) -> Stream {
     let state = s.state;
     let done = codec::send(r, law, frames, state, &bytes, &mut octets);
     let outcome = done.outcome;
-    let number = answer::number_of(outcome);
-    if number != 0 {
-        complain_refusal(number);
+    let code = answer::code_of(outcome);
+    if code != 0 {
+        complain_refusal(code);
         return failed(s);
     }
     let end = 6 * frames;
@@ -151,9 +151,9 @@ fn receive_some(r: Record, law: Law, s: Stream) -> Stream {
     let state = s.state;
     let done = codec::receive(r, law, frames, state, &octets, &mut bytes, &mut marks);
     let outcome = done.outcome;
-    let number = answer::number_of(outcome);
-    if number != 0 {
-        complain_refusal(number);
+    let code = answer::code_of(outcome);
+    if code != 0 {
+        complain_refusal(code);
         return failed(s);
     }
     let bits = bits_of(frames, width_of(r));

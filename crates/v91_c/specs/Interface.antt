@@ -2,11 +2,12 @@
 use Prim.Native.Nat.{ℕ}
 use mathlib.Core.Bool.{Bool, true, false, cond}
 use mathlib.Core.List.{List, [], _∷_}
-use Rattle.standard.specs.First.{Test, test, first}
+use Rattle.standard.specs.First.{Answer, Test, test, first}
 use Rattle.standard.specs.Refusals.{shorter}
 use Rattle.standard.specs.Calls.{accepted, over, readCall, readRefusal, readRecord, writeCall, writeRefusal, writeBitCount, writeBytes, sendCall, sendRefusal, sendLeft, sendOctets, receiveCall, receiveRefusal, receiveLeft, receiveBytes, receiveMarked}
 use Rattle.standard.specs.declared.Law.{Law}
 use Rattle.standard.specs.declared.Law.the-variants.{Mu, A}
+use Rattle.answer.specs.Coded.{coded}
 use Rattle.forms.specs.RecordBytes.{recordBytes, recordAt}
 use Rattle.forms.specs.StateBytes.{stateBytes, stateAt}
 
@@ -16,12 +17,12 @@ lawOf true = A
 lawOf false = Mu
 
 -- what is answered where no test before it applies
-abbrev pub otherwise : ℕ → Test
-otherwise n = test n true
+abbrev pub otherwise : Answer → Test
+otherwise a = record { answer = a; applies = true }
 
--- done where the refusal n is 0, else what is left of a call refused with n
-unfoldable pub answered : {X : Type 0} → ℕ → X → (ℕ → X) → X
-answered n done refused = cond (accepted n) done (refused n)
+-- done where nothing is refused, else what is left of a call that answers a refusal in one number
+unfoldable pub answered : {X : Type 0} → Answer → X → (ℕ → X) → X
+answered a done refused = cond (accepted a) done (refused (coded a))
 
 -- ---- v91_read_cp
 

@@ -1,6 +1,8 @@
 // Runs the calls on standard input through the CP reader and writer, and writes an answer line for each. A line is lowercase hexadecimal:
 // `00`, the bit count in eight bytes and the CP, which `refusal, record` answers; or `01`, a record and a buffer, which
-// `refusal, bit count in two bytes, buffer afterwards` answers. Numbers have their low byte first, and a record is 105 bytes.
+// `refusal, bit count in two bytes, buffer afterwards` answers. A refusal is its number (0 for none) and its value, a byte each. Numbers
+// have their low byte first, and a record is 105 bytes.
+use standard::Outcome;
 ghost use mathlib.Core.Path.{_≡_};
 ghost use Prim.Native.Nat.{_<_, _≤_};
 ghost use lib.ListN.{length, set};
@@ -13,17 +15,26 @@ fn put(reply: &mut [u8], at: usize, byte: u8)
     reply[at] = byte;
 }
 
+// Puts the refusal of an outcome.
+fn put_refusal(reply: &mut [u8], outcome: Outcome)
+    requires { ⌜ 2 ≤ length (now reply) ⌝ }
+{
+    let code = answer::code_of(outcome);
+    put(reply, 0, (code % 256) as u8);
+    put(reply, 1, (code / 0x100_0000) as u8);
+}
+
 // Answers a call of the reader: bit count and CP.
 fn answer_read(call: &[u8], reply: &mut [u8]) -> usize
-    requires { ⌜ (8 ≤ length (now call)) × (106 ≤ length (now reply)) ⌝ }
-    ensures { λ n. ⌜ n ≡ 106 ⌝ }
+    requires { ⌜ (8 ≤ length (now call)) × (107 ≤ length (now reply)) ⌝ }
+    ensures { λ n. ⌜ n ≡ 107 ⌝ }
 {
     let read = cp::read_cp(&call[8..], bits::field_at(call, 0, 64) as usize);
     let outcome = read.outcome;
     let r = read.record;
-    put(reply, 0, answer::number_of(outcome));
-    forms::record_into(r, &mut reply[1..]);
-    106
+    put_refusal(reply, outcome);
+    forms::record_into(r, &mut reply[2..]);
+    107
 }
 
 // Answers a call of the writer: record and buffer; nothing where there is no room.
@@ -31,22 +42,22 @@ fn answer_write(call: &[u8], reply: &mut [u8]) -> usize
     requires { ⌜ 105 ≤ length (now call) ⌝ }
     ensures { λ n. ⌜ n ≤ length (now (reply .entry)) ⌝ }
 {
-    let end = call.len() - 102;
+    let end = call.len() - 101;
     if reply.len() < end {
         return 0;
     }
-    bytes::copy(&call[105..call.len()], &mut reply[3..end]);
-    let written = cp::write_cp(forms::record_from(call), &mut reply[3..end]);
+    bytes::copy(&call[105..call.len()], &mut reply[4..end]);
+    let written = cp::write_cp(forms::record_from(call), &mut reply[4..end]);
     let outcome = written.outcome;
-    put(reply, 0, answer::number_of(outcome));
-    put(reply, 1, (written.bit_count % 256) as u8);
-    put(reply, 2, (written.bit_count / 256 % 256) as u8);
+    put_refusal(reply, outcome);
+    put(reply, 2, (written.bit_count % 256) as u8);
+    put(reply, 3, (written.bit_count / 256 % 256) as u8);
     end
 }
 
 // Answers a call of either kind; nothing where the call is too short or there is no room.
 fn answer_call(call: &[u8], reply: &mut [u8]) -> usize
-    requires { ⌜ 106 ≤ length (now reply) ⌝ }
+    requires { ⌜ 107 ≤ length (now reply) ⌝ }
     ensures { λ n. ⌜ n ≤ length (now (reply .entry)) ⌝ }
 {
     if call.len() < 9 {

@@ -1,12 +1,13 @@
 // Runs the calls on standard input through the frame sender, the frame receiver and the linear samples, and writes an answer line for
 // each. A line is lowercase hexadecimal; numbers have their low byte first; a record is 105 bytes, a law 1 (0 is µ-law), the frames 8,
-// a state 5 (history, last sign), a length 2.
+// a state 5 (history, last sign), a length 2, a refusal 2 (its number, 0 for none, and its value).
 // `02`, record, law, frames, state, length of the octet buffer, data: answered by refusal, state, octet buffer afterwards.
 // `03`, record, law, frames, state, lengths of the bits buffer and the marks buffer, octets: by refusal, state, both buffers afterwards.
 // `04`, law, length of the samples buffer, octets: by refusal and samples, 4 bytes each in two's complement.
 use standard::FramesDone;
 use standard::Law;
 use standard::LineState;
+use standard::Outcome;
 use standard::Record;
 ghost use Prim.Native.Nat.{_+_, _*_, _%_, _<_, _≤_};
 ghost use lib.ListN.{length};
@@ -63,14 +64,23 @@ fn fill(buffer: &mut [u8], first: usize, step: usize)
     }
 }
 
+// Puts the refusal of an outcome.
+fn put_refusal(outcome: Outcome, reply: &mut [u8])
+    requires { ⌜ 2 ≤ length (now reply) ⌝ }
+{
+    let code = answer::code_of(outcome) as u64;
+    bits::put_field(reply, 0, 8, code % 256);
+    bits::put_field(reply, 8, 8, code / 0x100_0000);
+}
+
 // Puts the refusal and the state left.
 fn put_done(done: FramesDone, reply: &mut [u8])
-    requires { ⌜ 6 ≤ length (now reply) ⌝ }
+    requires { ⌜ 7 ≤ length (now reply) ⌝ }
 {
     let outcome = done.outcome;
     let state = done.state;
-    bits::put_field(reply, 0, 8, answer::number_of(outcome) as u64);
-    forms::state_into(state, &mut reply[1..]);
+    put_refusal(outcome, reply);
+    forms::state_into(state, &mut reply[2..]);
 }
 
 // Sends into a buffer that is filled first.
@@ -84,17 +94,17 @@ fn send_into(setup: Setup, bytes: &[u8], octets: &mut [u8]) -> FramesDone {
 
 // Answers a call of the sender; nothing where the call is too short or the reply has no room.
 fn answer_send(call: &[u8], reply: &mut [u8]) -> usize
-    requires { ⌜ 6 ≤ length (now reply) ⌝ }
+    requires { ⌜ 7 ≤ length (now reply) ⌝ }
     ensures { λ n. ⌜ n ≤ length (now (reply .entry)) ⌝ }
 {
     if call.len() < 122 {
         return 0;
     }
-    let end = 6 + two(call[120], call[121]);
+    let end = 7 + two(call[120], call[121]);
     if reply.len() < end {
         return 0;
     }
-    let done = send_into(setup_at(call), &call[122..], &mut reply[6..end]);
+    let done = send_into(setup_at(call), &call[122..], &mut reply[7..end]);
     put_done(done, reply);
     end
 }
@@ -111,13 +121,13 @@ fn receive_into(setup: Setup, octets: &[u8], bytes: &mut [u8], marks: &mut [u8])
 
 // Answers a call of the receiver, by way of `marks`; nothing where the call is too short or there is no room.
 fn answer_receive(call: &[u8], reply: &mut [u8], marks: &mut [u8]) -> usize
-    requires { ⌜ 6 ≤ length (now reply) ⌝ }
+    requires { ⌜ 7 ≤ length (now reply) ⌝ }
     ensures { λ n. ⌜ n ≤ length (now (reply .entry)) ⌝ }
 {
     if call.len() < 124 {
         return 0;
     }
-    let end = 6 + two(call[120], call[121]);
+    let end = 7 + two(call[120], call[121]);
     let count = two(call[122], call[123]);
     if marks.len() < count {
         return 0;
@@ -129,7 +139,7 @@ fn answer_receive(call: &[u8], reply: &mut [u8], marks: &mut [u8]) -> usize
     let done = receive_into(
         setup_at(call),
         &call[124..],
-        &mut reply[6..end],
+        &mut reply[7..end],
         &mut marks[0..count],
     );
     put_done(done, reply);
@@ -169,12 +179,12 @@ fn put_samples(samples: &[i32], reply: &mut [u8])
 
 // Puts the refusal and the samples of octets, which go into a buffer that is filled first.
 fn linear_into(law: Law, octets: &[u8], samples: &mut [i32], reply: &mut [u8])
-    requires { ⌜ (1 + 4 * length (now samples) ≤ length (now reply)) × (length (now samples) ≤ 65536) ⌝ }
+    requires { ⌜ (2 + 4 * length (now samples) ≤ length (now reply)) × (length (now samples) ≤ 65536) ⌝ }
 {
     fill_samples(samples);
     let outcome = pcm::linear(law, octets, samples);
-    bits::put_field(reply, 0, 8, answer::number_of(outcome) as u64);
-    put_samples(samples, &mut reply[1..]);
+    put_refusal(outcome, reply);
+    put_samples(samples, &mut reply[2..]);
 }
 
 // Answers a call for linear samples, by way of `samples`; nothing where there is no room.
@@ -186,16 +196,16 @@ fn answer_linear(call: &[u8], reply: &mut [u8], samples: &mut [i32]) -> usize
     if samples.len() < count {
         return 0;
     }
-    if reply.len() < 1 + 4 * count {
+    if reply.len() < 2 + 4 * count {
         return 0;
     }
     linear_into(law_of(call[1]), &call[4..], &mut samples[0..count], reply);
-    1 + 4 * count
+    2 + 4 * count
 }
 
 // Answers a call of any kind, and returns the reply's length; nothing where the call is too short or of no kind.
 fn answer_call(call: &[u8], reply: &mut [u8]) -> usize
-    requires { ⌜ 6 ≤ length (now reply) ⌝ }
+    requires { ⌜ 7 ≤ length (now reply) ⌝ }
     ensures { λ n. ⌜ n ≤ length (now (reply .entry)) ⌝ }
 {
     if call.len() < 4 {

@@ -1,11 +1,11 @@
--- Test 4, then the stages of 5 to 8 and of 9 to 11. Assumes nothing.
+-- Test 4, then the stage of 5 to 8, then that of the rate. Assumes nothing.
 use mathlib.Core.Path.{_≡_, sym, ap, _∙_}
 use Prim.Native.Nat.{ℕ}
 use mathlib.Core.Bool.{false}
 use Rattle.standard.specs.Bits.{bitAt}
 use Rattle.standard.specs.First.{first}
 use Rattle.standard.specs.Record.{topIndex}
-use Rattle.standard.specs.Refusals.{indexTooLarge, outcomeNumber, rateTests}
+use Rattle.standard.specs.Refusals.{indexTooLarge, outcomeAnswer, rateTests}
 use Rattle.standard.proofs.First.{first-hit, first-skip}
 use Rattle.standard.proofs.Refusals.{index-le, top-lt}
 use Rattle.standard.proofs.Stages.{stage-hit, stage-past}
@@ -20,7 +20,7 @@ indexed : (c : tie.Else1) → indexTooLarge (c .before .before .before .args .r)
 indexed c = sym (c .before .index-too-large .ensures) ∙ c .if1 .left
 
 -- what the stage of 5 to 8 answers
-sequence : (c : tie.After-sequence-fault) → outcomeNumber (c .sequence-fault .result)
+sequence : (c : tie.After-sequence-fault) → outcomeAnswer (c .sequence-fault .result)
     ≡ first (sequenceTests (bitAt (c .before .before .before .before .before .args .cp .now)) (c .before .before .before .before .before .args .bit-count) (topIndex (c .before .before .before .before .before .args .r)))
 sequence c =
     let a = c .before .before .before .before .before .args in
@@ -49,7 +49,7 @@ returns-2 : tie.Need-returns-2
 unfolding contentTests
 returns-2 c =
     let a = c .before .before .before .before .before .before .before .args in
-    first-skip _ _ _ _ (indexed (c .before .before .before .before))
+    first-skip _ _ (indexed (c .before .before .before .before))
     (stage-hit (c .before .before .sequence-fault .result) _ (sequenceTests (bitAt (a .cp .now)) (a .bit-count) (topIndex (a .r))) (rateTests (a .r)) (c .enum-told .given .1) (sequence (c .before .before)))
 
 enum-told-2 : tie.Need-enum-told-2
@@ -62,8 +62,8 @@ returns-3 : tie.Need-returns-3
 unfolding contentTests sequenceTests
 returns-3 c =
     let a = c .before .before .before .before .before .before .before .before .args in
-    first-skip _ _ _ _ (indexed (c .before .before .before .before .before))
-    (stage-past (c .before .before .before .sequence-fault .result) (sequenceTests (bitAt (a .cp .now)) (a .bit-count) (topIndex (a .r))) (rateTests (a .r)) tt (c .before .enum-told2 .given .1) (sequence (c .before .before .before)) _ (c .rate-fault .ensures))
+    first-skip _ _ (indexed (c .before .before .before .before .before))
+    (stage-past (c .before .before .before .sequence-fault .result) (sequenceTests (bitAt (a .cp .now)) (a .bit-count) (topIndex (a .r))) (rateTests (a .r)) tt (c .before .enum-told2 .given .1) (sequence (c .before .before .before)) (c .rate-fault .ensures))
 
 pub content-fault-spec : {M : Type 1} → statement M
 content-fault-spec =

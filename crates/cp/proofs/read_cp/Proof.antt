@@ -1,8 +1,8 @@
 -- The first stage that refuses answers; where none does, the record is the one read. Assumes nothing.
 use mathlib.Core.Path.{_≡_, sym, ap, _∙_}
 use Rattle.standard.specs.Bits.{bitAt}
-use Rattle.standard.specs.First.{first}
-use Rattle.standard.specs.Refusals.{outcomeNumber}
+use Rattle.standard.specs.First.{bare, first}
+use Rattle.standard.specs.Refusals.{outcomeAnswer}
 use Rattle.standard.specs.Calls.{readRefusal}
 use Rattle.standard.specs.declared.Record.{Record}
 use Rattle.standard.specs.Calls.{readCall}
@@ -12,11 +12,11 @@ use borrow.Author.Needs.{needs}
 use Rattle.cp.proofs.read_cp.Statement.{statement}
 use Rattle.cp.proofs.read_cp.Tie as tie
 
--- what the stage of 4 to 11 answers for all
-content : (c : tie.After-content-fault) → outcomeNumber (c .content-fault .result) ≡ readRefusal (readCall (c .before .before .before .before .before .before .args .cp .now) (c .before .before .before .before .before .before .args .bit-count))
+-- what the stage of 4 on answers for all
+content : (c : tie.After-content-fault) → outcomeAnswer (c .content-fault .result) ≡ readRefusal (readCall (c .before .before .before .before .before .before .args .cp .now) (c .before .before .before .before .before .before .args .bit-count))
 content c =
     let a = c .before .before .before .before .before .before .args in
-    past-shape (a .cp .now) (a .bit-count) (c .before .before .before .before .shape-fault .result) (c .before .before .enum-told2 .given .1) (c .before .before .before .before .shape-fault .ensures) _
+    past-shape (a .cp .now) (a .bit-count) (c .before .before .before .before .shape-fault .result) (c .before .before .enum-told2 .given .1) (c .before .before .before .before .shape-fault .ensures)
     (c .content-fault .ensures ∙ ap (λ (r : Record). first (contentTests (bitAt (a .cp .now)) (a .bit-count) r)) (c .before .record-in .ensures))
 
 shape-fault-requires : tie.Need-shape-fault-requires
@@ -34,7 +34,7 @@ returns c =
     let o = c .before .before .before .shape-fault .result in
     let told = c .before .enum-told .given .1 in
     let e = refused-shape (a .cp .now) (a .bit-count) o _ told (c .before .before .before .shape-fault .ensures) in
-    (ap outcomeNumber (c .refused .ensures .0) ∙ e, c .refused .ensures .1 ∙ sym (read-refused (a .cp .now) (a .bit-count) o _ told e))
+    (ap outcomeAnswer (c .refused .ensures .0) ∙ e, c .refused .ensures .1 ∙ sym (read-refused (a .cp .now) (a .bit-count) o _ told e))
 
 enum-told-2 : tie.Need-enum-told-2
 enum-told-2 c = search needs
@@ -57,7 +57,7 @@ returns-2 c =
     let o = c .before .before .before .content-fault .result in
     let told = c .before .enum-told3 .given .1 in
     let e = content (c .before .before .before) in
-    (ap outcomeNumber (c .refused2 .ensures .0) ∙ e, c .refused2 .ensures .1 ∙ sym (read-refused (a .cp .now) (a .bit-count) o _ told e))
+    (ap outcomeAnswer (c .refused2 .ensures .0) ∙ e, c .refused2 .ensures .1 ∙ sym (read-refused (a .cp .now) (a .bit-count) o _ told e))
 
 enum-told-4 : tie.Need-enum-told-4
 enum-told-4 c = search needs
@@ -65,7 +65,7 @@ enum-told-4 c = search needs
 returns-3 : tie.Need-returns-3
 returns-3 c =
     let a = c .before .before .before .before .before .before .before .before .args in
-    let e : 0 ≡ readRefusal (readCall (a .cp .now) (a .bit-count)) = sym (ap outcomeNumber (c .enum-told4 .given .1)) ∙ content (c .before .before) in
+    let e : bare 0 ≡ readRefusal (readCall (a .cp .now) (a .bit-count)) = sym (ap outcomeAnswer (c .enum-told4 .given .1)) ∙ content (c .before .before) in
     (e, c .before .before .before .record-in .ensures ∙ sym (read-accepted (a .cp .now) (a .bit-count) e))
 
 pub read-cp-spec : {M : Type 1} → statement M

@@ -8,7 +8,8 @@ use lib.ListN.{length}
 use lib.Seq.{length-take-le}
 use Rattle.standard.specs.Record.{topIndex}
 use Rattle.standard.specs.Cp.{cpLength, cpByteCount}
-use Rattle.standard.specs.Refusals.{outcomeNumber, indexTooLarge}
+use Rattle.standard.specs.First.{bare}
+use Rattle.standard.specs.Refusals.{outcomeAnswer, indexTooLarge}
 use Rattle.standard.specs.Calls.{writeRefusal}
 use Rattle.standard.proofs.Refusals.{top-lt}
 use Rattle.standard.specs.Calls.{writeCall}
@@ -19,7 +20,7 @@ use Rattle.cp.proofs.write_cp.Statement.{statement}
 use Rattle.cp.proofs.write_cp.Tie as tie
 
 -- what the tests answer
-refusal : (c : tie.After-write-fault) → outcomeNumber (c .write-fault .result) ≡ writeRefusal (writeCall (c .before .before .args .r) (c .before .before .args .cp .now))
+refusal : (c : tie.After-write-fault) → outcomeAnswer (c .write-fault .result) ≡ writeRefusal (writeCall (c .before .before .args .r) (c .before .before .args .cp .now))
 unfolding writeRefusal
 refusal c = c .write-fault .ensures
 
@@ -80,7 +81,7 @@ returns-2 : tie.Need-returns-2
 returns-2 c =
     let b = c .before .before .before .before .before in
     let a = b .before .before .before .before .before .before .args in
-    let e : 0 ≡ writeRefusal (writeCall (a .r) (a .cp .now)) = sym (ap outcomeNumber (b .before .before .enum-told2 .given .1)) ∙ refusal (b .before .before .before .before) in
+    let e : bare 0 ≡ writeRefusal (writeCall (a .r) (a .cp .now)) = sym (ap outcomeAnswer (b .before .before .enum-told2 .given .1)) ∙ refusal (b .before .before .before .before) in
     let k = write-accepted (a .r) (a .cp .now) e _ _ _ (c .cp-length .ensures ∙ ap (λ (g : ℕ). cpLength g) (b .before .largest-index .ensures)) (needed b) (c .before .before .before .put-cp .ensures) in
     (e, k .0, k .1)
 

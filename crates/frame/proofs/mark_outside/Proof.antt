@@ -2,9 +2,8 @@
 use mathlib.Core.Path.{_≡_, refl, sym, ap, _∙_}
 use Prim.Native.Nat.{_-_, _≤_, _<_}
 use native.Mathlib.Omega.{arith}
-use Rattle.standard.specs.Lists.{listFrom}
-use Rattle.standard.specs.First.{first}
-use Rattle.standard.specs.Frame.{outsideTest, outsideTests}
+use Rattle.standard.specs.Frame.{outsideTests}
+use Rattle.standard.proofs.First.{same-number, turns-over}
 use Rattle.frame.proofs.Receiving.{outsideFrom, outside-here, outside-past}
 use Rattle.frame.proofs.mark_outside.Statement.{statement}
 use Rattle.frame.proofs.mark_outside.Tie as tie
@@ -37,12 +36,12 @@ add-result : tie.Need-add-result Inv-loop μ-loop
 add-result c = omega arith
 
 returns : tie.Need-returns Inv-loop μ-loop
-unfolding outsideTests listFrom
+unfolding outsideTests
 returns c =
     let l = c .before .before .before .before .before .before .loop in
     let a = c .before .before .before .before .before .before .before .before .args in
     let ucode = c .before .before .ucode-of .ensures in
-    sym (l .inv .1 ∙ outside-here (a .r) (a .law) (a .octets .now) (l .i) _ _ _ (c .before .before .before .before .mask-of .ensures) (ucode .0) (ucode .1) (c .before .belongs .ensures) (omega arith) (c .if1 .taken))
+    sym (same-number (l .inv .1 ∙ outside-here (a .r) (a .law) (a .octets .now) (l .i) _ _ _ (c .before .before .before .before .mask-of .ensures) (ucode .0) (ucode .1) (c .before .belongs .ensures) (omega arith) (c .if1 .taken)))
 
 add-i : tie.Need-add-i Inv-loop μ-loop
 add-i c = omega arith
@@ -58,12 +57,12 @@ loop-again c =
     (omega arith, l .inv .1 ∙ outside-past (a .r) (a .law) (a .octets .now) (l .i) _ _ _ (c .before .before .before .before .mask-of .ensures) (ucode .0) (ucode .1) (c .before .belongs .ensures) (omega arith) (c .if1 .left))
 
 returns-2 : tie.Need-returns-2 Inv-loop μ-loop
-unfolding outsideTests outsideTest listFrom first
+unfolding outsideTests
 returns-2 c =
     let l = c .before .loop in
     let a = c .before .before .before .args in
     let e : l .i ≡ 6 = omega arith in
-    sym (l .inv .1 ∙ ap (outsideFrom (a .r) (a .law) (a .octets .now)) e)
+    sym (same-number (l .inv .1 ∙ ap (outsideFrom (a .r) (a .law) (a .octets .now)) e ∙ turns-over _ 6))
 
 pub mark-outside-spec : {M : Type 1} → statement M
 mark-outside-spec =

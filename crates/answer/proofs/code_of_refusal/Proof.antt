@@ -1,9 +1,15 @@
 -- Each arm has the number of its refusal. Assumes nothing.
-use mathlib.Core.Path.{sym, ap}
-use Rattle.standard.specs.Refusals.{refusalNumber}
+use mathlib.Core.Path.{_≡_, sym, ap}
 use borrow.Author.Needs.{needs}
-use Rattle.answer.proofs.number_of_refusal.Statement.{statement}
-use Rattle.answer.proofs.number_of_refusal.Tie as tie
+use Rattle.standard.specs.Refusals.{refusalAnswer}
+use Rattle.standard.specs.declared.Refusal.{Refusal}
+use Rattle.answer.specs.Coded.{coded}
+use Rattle.answer.proofs.code_of_refusal.Statement.{statement}
+use Rattle.answer.proofs.code_of_refusal.Tie as tie
+
+-- the arm of the refusal y
+arm : {x y : Refusal} → x ≡ y → coded (refusalAnswer y) ≡ coded (refusalAnswer x)
+arm e = sym (ap (λ (z : Refusal). coded (refusalAnswer z)) e)
 
 enum-told : tie.Need-enum-told
 enum-told c = search needs
@@ -56,59 +62,74 @@ enum-told-16 c = search needs
 enum-told-17 : tie.Need-enum-told-17
 enum-told-17 c = search needs
 
+enum-known-x : tie.Need-enum-known-x
+enum-known-x c = search needs
+
+cast-result : tie.Need-cast-result
+cast-result c = search needs
+
+mul-result : tie.Need-mul-result
+mul-result c = search needs
+
+add-result : tie.Need-add-result
+add-result c = search needs
+
 returns : tie.Need-returns
-returns c = sym (ap refusalNumber (c .enum-told .given .1))
+returns c = arm (c .enum-told .given .1)
 
 returns-2 : tie.Need-returns-2
-returns-2 c = sym (ap refusalNumber (c .enum-told2 .given .1))
+returns-2 c = arm (c .enum-told2 .given .1)
 
 returns-3 : tie.Need-returns-3
-returns-3 c = sym (ap refusalNumber (c .enum-told3 .given .1))
+returns-3 c = arm (c .enum-told3 .given .1)
 
 returns-4 : tie.Need-returns-4
-returns-4 c = sym (ap refusalNumber (c .enum-told4 .given .1))
+returns-4 c = arm (c .enum-told4 .given .1)
 
 returns-5 : tie.Need-returns-5
-returns-5 c = sym (ap refusalNumber (c .enum-told5 .given .1))
+returns-5 c = arm (c .enum-told5 .given .1)
 
 returns-6 : tie.Need-returns-6
-returns-6 c = sym (ap refusalNumber (c .enum-told6 .given .1))
+returns-6 c = arm (c .enum-told6 .given .1)
 
 returns-7 : tie.Need-returns-7
-returns-7 c = sym (ap refusalNumber (c .enum-told7 .given .1))
+returns-7 c = arm (c .enum-told7 .given .1)
 
 returns-8 : tie.Need-returns-8
-returns-8 c = sym (ap refusalNumber (c .enum-told8 .given .1))
+returns-8 c = arm (c .enum-told8 .given .1)
 
 returns-9 : tie.Need-returns-9
-returns-9 c = sym (ap refusalNumber (c .enum-told9 .given .1))
+returns-9 c = arm (c .enum-told9 .given .1)
 
 returns-10 : tie.Need-returns-10
-returns-10 c = sym (ap refusalNumber (c .enum-told10 .given .1))
+returns-10 c = arm (c .enum-told10 .given .1)
 
 returns-11 : tie.Need-returns-11
-returns-11 c = sym (ap refusalNumber (c .enum-told11 .given .1))
+returns-11 c = arm (c .enum-told11 .given .1)
 
 returns-12 : tie.Need-returns-12
-returns-12 c = sym (ap refusalNumber (c .enum-told12 .given .1))
+returns-12 c = arm (c .enum-told12 .given .1)
 
 returns-13 : tie.Need-returns-13
-returns-13 c = sym (ap refusalNumber (c .enum-told13 .given .1))
+returns-13 c = arm (c .enum-told13 .given .1)
 
 returns-14 : tie.Need-returns-14
-returns-14 c = sym (ap refusalNumber (c .enum-told14 .given .1))
+returns-14 c = arm (c .enum-told14 .given .1)
 
 returns-15 : tie.Need-returns-15
-returns-15 c = sym (ap refusalNumber (c .enum-told15 .given .1))
+returns-15 c = arm (c .enum-told15 .given .1)
 
 returns-16 : tie.Need-returns-16
-returns-16 c = sym (ap refusalNumber (c .enum-told16 .given .1))
+returns-16 c = arm (c .enum-told16 .given .1)
 
 returns-17 : tie.Need-returns-17
-returns-17 c = sym (ap refusalNumber (c .enum-told17 .given .1))
+returns-17 c = arm (c .enum-told17 .given .1)
 
-pub number-of-refusal-spec : {M : Type 1} → statement M
-number-of-refusal-spec =
+returns-18 : tie.Need-returns-18
+returns-18 c = arm (c .before .x .given .1)
+
+pub code-of-refusal-spec : {M : Type 1} → statement M
+code-of-refusal-spec =
     tie.close
     (tie.spec
     enum-told
@@ -128,6 +149,10 @@ number-of-refusal-spec =
     enum-told-15
     enum-told-16
     enum-told-17
+    enum-known-x
+    cast-result
+    mul-result
+    add-result
     returns
     returns-2
     returns-3
@@ -144,4 +169,5 @@ number-of-refusal-spec =
     returns-14
     returns-15
     returns-16
-    returns-17)
+    returns-17
+    returns-18)
