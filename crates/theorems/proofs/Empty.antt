@@ -1,19 +1,22 @@
 -- 25 tells the lowest empty interval, and stands only in place of 11. Assumes nothing.
 use mathlib.Core.Path.{_≡_, refl}
 use mathlib.Core.Logic.{_⊎_, inl, inr}
-use Prim.Native.Nat.{ℕ, zero, suc, _+_, _≤_}
+use Prim.Native.Nat.{ℕ, zero, suc, _+_, _≤_, _<_}
 use mathlib.Core.Bool.{Bool, true, false}
 use mathlib.Core.List.{List, [], _∷_, _++_}
 use native.Mathlib.Omega.{arith}
-use lib.Dec.{lit≤}
-use Rattle.standard.specs.Lists.{listFrom}
-use Rattle.standard.specs.First.{bare, Test, test, first}
+use lib.Dec.{lit<, lit≤}
+use Rattle.standard.specs.Lists.{listFrom, any}
+use Rattle.standard.specs.First.{bare, valued, Test, test, first}
 use Rattle.standard.specs.Bits.{bitAt}
+use Rattle.standard.specs.Record.{inMask}
 use Rattle.standard.specs.Cp.{recordIn}
-use Rattle.standard.specs.Refusals.{intervalEmpty, productTooSmall, maskAboveIndices, emptyTest, emptyTests, rateTests, recordTests, readTests, writeTests, lineTests, bufferTests, frameTests}
+use Rattle.standard.specs.Constellation.{sizeOf, member}
+use Rattle.standard.specs.Refusals.{indexTooLarge, grantedBelowFullRate, intervalEmpty, productTooSmall, maskAboveIndices, emptyTest, emptyTests, rateTests, recordTests, readTests, writeTests, lineTests, bufferTests, frameTests}
 use Rattle.standard.specs.declared.LineState.{LineState}
 use Rattle.standard.specs.declared.Record.{Record}
 use Rattle.standard.proofs.Refusals.{empty-too-small, empty-lowest}
+use Rattle.theorems.specs.Examples.{emptyTwice}
 use Rattle.theorems.specs.Empty.{without, InPlaceOf11, EmptyTold}
 
 -- ts answers as us, or 25 where us answers 11
@@ -68,3 +71,13 @@ frames-kept r st n readShort writeShort = record-kept r (lineTests r st n ++ buf
 
 pub empty-told : EmptyTold
 empty-told = record { lowest = empty-lowest; both = empty-too-small; reader = reads; writer = writes; frames = frames-kept }
+
+-- a worked instance of the premises of `lowest`: intervals 2 and 4 are empty, 0 and 1 are not
+pub instance-told : first (recordTests emptyTwice) ≡ valued 25 2
+unfolding indexTooLarge grantedBelowFullRate intervalEmpty any listFrom sizeOf member inMask
+instance-told = empty-told .lowest emptyTwice 2 (lit< tt) refl below refl refl
+  where
+    below : (k : ℕ) → k < 2 → intervalEmpty emptyTwice k ≡ false
+    below zero h = refl
+    below (suc zero) h = refl
+    below (suc (suc k)) h = absurd (omega arith)

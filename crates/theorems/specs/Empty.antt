@@ -25,7 +25,7 @@ pub record EmptyTold : Type 0 where
       → indexTooLarge r ≡ false → grantedBelowFullRate r ≡ false → first (recordTests r) ≡ valued 25 i
   -- an empty interval has 11 as well
   pub both : (r : Record) (i : ℕ) → i < 6 → intervalEmpty r i ≡ true → productTooSmall r ≡ true
-  -- so the reader, the writer, and the sender and the receiver accept what they accept without it, and answer else as without it
+  -- so the reader, the writer, and the sender and the receiver accept what they accept without 25, and answer as without it but for 11
   pub reader : (s : List ℕ) (n : ℕ) → InPlaceOf11 (readTests s n)
   pub writer : (r : Record) (writeShort : Bool) → InPlaceOf11 (writeTests r writeShort)
   pub frames : (r : Record) (st : LineState) (n : ℕ) (readShort writeShort : Bool) → InPlaceOf11 (frameTests r st n readShort writeShort)
