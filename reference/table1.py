@@ -4,6 +4,9 @@ Each printed row holds two Ucodes, and for each its µ-law octet, µ-law linear 
 and A-law linear value. The octets are those of the positive codewords. Thirteen rows of the source
 text have a Cyrillic В or С where the Latin letter is meant: Ucodes 6, 8, 9, 12, 15, 30, 34, 35, 37,
 38, 44, 45 and 52 with the Ucode printed beside each. Here they are Latin.
+
+octet_of reads the printed table, and the codec of the model uses it. octet_by_rule is the rule of
+the same octets as arithmetic; it reads nothing of the table.
 """
 
 MU, A = 0, 1
@@ -99,8 +102,17 @@ UCODES = tuple({octet: ucode for ucode, octet in enumerate(column)} for column i
 
 
 def octet_of(law, sign, ucode):
-    """The octet of a Ucode: sign 1 is positive, and a negative octet lacks the top bit."""
+    """The printed octet of a Ucode: sign 1 is positive, and a negative octet lacks the top bit."""
     return OCTETS[law][ucode] if sign else OCTETS[law][ucode] & 0x7F
+
+
+def octet_by_rule(law, sign, ucode):
+    """The octet of a Ucode by arithmetic: no conditional and no look-up.
+
+    FF XOR u in µ-law and D5 XOR u in A-law, less the top bit's 128 where the sign is 0.
+    """
+    constant = 0xFF - (0xFF - 0xD5) * law
+    return (constant ^ ucode) - 128 * (1 - sign)
 
 
 def ucode_of(law, octet):

@@ -1,10 +1,11 @@
 """Tests of the model: `python3 reference/test.py` prints a line for each group, then 'ok'.
 
-With -v it also says how many stored cases each wrong codec fails.
+With -v it also says how many stored cases and rows of Table 1 each wrong codec fails.
 """
 
 import sys
 import traceback
+from itertools import product
 from unittest.mock import patch
 
 import cases_cp
@@ -19,7 +20,7 @@ from linear import linear
 from record import EMPTY, EXAMPLE, FULL_MASK, k_of, make, mask_of
 from refusals import ORDER, Refusal, in_order
 from samples import TWO_EMPTY, Draw, a_record, a_sparse_record, a_state
-from table1 import A, MU, linear_of, octet_of, rows, ucode_of
+from table1 import A, MU, linear_of, octet_by_rule, octet_of, rows, ucode_of
 
 
 def check(holds, what):
@@ -47,18 +48,20 @@ def a_rule(u):
 
 
 def table_1():
-    """The printed rows follow the XOR rule and the linear rule."""
+    """The printed rows follow the rule of octets and the linear rule."""
     same([row[0] for row in rows()], list(range(128)), "Ucodes")
-    for u, mu, mu_linear, a, a_linear in rows():
-        same((mu, a), (0xFF ^ u, 0xD5 ^ u), f"octets of Ucode {u}")
+    for u, _, mu_linear, _, a_linear in rows():
         same((mu_linear, a_linear), (mu_rule(u), a_rule(u)), f"linear values of Ucode {u}")
+    cases = list(product((MU, A), (1, 0), range(128)))
+    for case in cases:
+        same(octet_by_rule(*case), octet_of(*case), f"octet of law, sign, Ucode {case}")
     for law in (MU, A):
         for octet in range(256):
             same(octet_of(law, octet >> 7, ucode_of(law, octet)), octet, "octet there and back")
     same((linear_of(MU, 0x7F), linear_of(MU, 0xFF)), (0, 0), "µ-law zeros")
     same(linear(A, b"\xd5\x55", [1, 2, 3]), (None, [8, -8, 3]), "samples")
     same(linear(A, b"\xd5\x55", [1]), (Refusal(17), [1]), "samples declined")
-    return "128 rows, 256 octets"
+    return f"128 rows, 256 octets, {len(cases)} by rule"
 
 
 # The bench examples of document 01
@@ -683,6 +686,16 @@ def unnamed_masks_lost(bits):
     return record._replace(halves=tuple(halves))
 
 
+def a_law_with_d4(law, sign, ucode):
+    """The A-law constant is one bit off."""
+    return octet_by_rule(law, sign, ucode) ^ (0xD5 ^ 0xD4) * law
+
+
+def sign_added(law, sign, ucode):
+    """128 is added for a negative octet, which is more than a byte; cut to a byte it is right."""
+    return octet_by_rule(law, 1, ucode) + 128 * (1 - sign)
+
+
 WRONG_CODECS = {
     "history zeroed on a mark": {"frames.after_mark": history_zeroed},
     "history kept on a mark": {"frames.after_mark": history_kept},
@@ -757,30 +770,41 @@ WRONG_CODECS = {
     "unnamed masks counted as empty": {"record.empty_intervals": unnamed_count_as_empty},
     "lower half alone looked at": {"record.empty_intervals": empty_by_half(0)},
     "upper half alone looked at": {"record.empty_intervals": empty_by_half(1)},
+    "octets of A-law with D4": {"vectors.octet_by_rule": a_law_with_d4},
+    "octets with the sign inverted": {"vectors.octet_by_rule": lambda law, sign, ucode:
+                                      octet_by_rule(law, 1 - sign, ucode)},
+    "octets with the sign added": {"vectors.octet_by_rule": sign_added},
+    "octets of the other law": {"vectors.octet_by_rule": lambda law, sign, ucode:
+                                octet_by_rule(1 - law, sign, ucode)},
 }
 
 
-def stopped(changes, both):
-    """How many stored cases a wrong codec, given by what it changes, fails."""
+def failed_rows(stored):
+    """How many stored rows of Table 1 differ from those made."""
+    return sum(row != made for row, made in zip(stored, vectors.pcm_lines().splitlines()))
+
+
+def stopped(changes, both, stored):
+    """How many stored cases and rows a wrong codec, given by what it changes, fails."""
     changed = [patch(name, value) for name, value in changes.items()]
     for each in changed:
         each.start()
     try:
-        return sum(forms.answer(case) != answer for case, answer in both)
+        return sum(forms.answer(case) != answer for case, answer in both) + failed_rows(stored)
     finally:
         for each in changed:
             each.stop()
 
 
 def wrong_codecs():
-    """Every wrong codec fails at a stored case."""
-    both = stored_cases()
-    found = {name: stopped(changes, both) for name, changes in WRONG_CODECS.items()}
+    """Every wrong codec fails at a stored case or a stored row."""
+    both, stored = stored_cases(), vectors.stored("vectors_pcm/stdout").splitlines()
+    found = {name: stopped(changes, both, stored) for name, changes in WRONG_CODECS.items()}
     if "-v" in sys.argv:
         for name, count in found.items():
-            print(f"    {name}: fails {count} of {len(both)}")
+            print(f"    {name}: fails {count} of {len(both) + len(stored)}")
     check(all(found.values()), f"not stopped: {[name for name in found if not found[name]]}")
-    same(stopped({}, both), 0, "the model itself")
+    same(stopped({}, both, stored), 0, "the model itself")
     return f"{len(found)} stopped"
 
 

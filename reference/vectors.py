@@ -11,7 +11,7 @@ import cases_cp
 import cases_frames
 from demo import demo_text
 from forms import answer
-from table1 import linear_of, octet_of
+from table1 import linear_of, octet_by_rule, octet_of
 
 CRATES = Path(__file__).resolve().parent.parent / "crates"
 
@@ -22,13 +22,17 @@ def hex_lines(byte_strings):
 
 
 def pcm_lines():
-    """Table 1 row by row: law, sign, Ucode, octet and linear value, 512 lines."""
+    """Table 1 row by row, 512 lines.
+
+    Law, sign, Ucode, the octet as printed, the octet by arithmetic, and the linear value.
+    """
     lines = []
     for law, name in enumerate(("mu", "a")):
         for sign in (1, 0):
             for ucode in range(128):
-                octet = octet_of(law, sign, ucode)
-                lines.append(f"{name} {sign} {ucode} {octet:02x} {linear_of(law, octet)}\n")
+                table, octet = octet_of(law, sign, ucode), octet_by_rule(law, sign, ucode)
+                value = linear_of(law, table)
+                lines.append(f"{name} {sign} {ucode} {table:02x} {octet:02x} {value}\n")
     return "".join(lines)
 
 

@@ -1,3 +1,2 @@
-pub mod Table
 pub mod Sample
-pub mod Filled
+pub mod Samples

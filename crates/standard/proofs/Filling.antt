@@ -1,4 +1,4 @@
--- A buffer of n numbers that is filled from the front, one place a turn. Assumes nothing.
+-- A buffer that is filled from the front, one place a turn. Assumes nothing.
 use mathlib.Core.Path.{_≡_, refl, sym, ap, _∙_}
 use mathlib.Core.Logic.{_⊎_, inl, inr}
 use Prim.Native.Nat.{ℕ, suc, _+_, _<_}
@@ -12,7 +12,7 @@ use Rattle.standard.specs.Lists.{listFrom}
 use Rattle.standard.specs.Calls.{over}
 use Rattle.standard.proofs.Lists.{length-listFrom, listFrom-is, listFrom-snoc}
 
--- the first i of its n places are as f says
+-- the first i of n numbers are as f says
 pub record Filled (f : ℕ → ℕ) (n : ℕ) (xs : List ℕ) (i : ℕ) : Type 0 where
   pub long : length xs ≡ n
   pub done : (k : ℕ) → k < i → getD xs k 0 ≡ f k
@@ -31,16 +31,16 @@ pub filled-all : {f : ℕ → ℕ} {n : ℕ} {xs : List ℕ} → Filled f n xs n
 filled-all {f} {n} {xs} p = listFrom-is f 0 n xs (p .long) (p .done)
 
 -- a lent buffer d that is filled from the front, and whose rest stays
-module _ (f : ℕ → ℕ) (d : List ℕ) where
+module _ {X : Type 0} (f : ℕ → X) (d : List X) where
   pub listed-none : d ≡ listFrom f 0 0 ++ drop 0 d
   unfolding listFrom
   listed-none = refl
 
-  pub listed-more : (xs : List ℕ) (n v : ℕ) → xs ≡ listFrom f 0 n ++ drop n d → n < length d → v ≡ f n → set xs n v ≡ listFrom f 0 (n + 1) ++ drop (n + 1) d
+  pub listed-more : (xs : List X) (n : ℕ) (v : X) → xs ≡ listFrom f 0 n ++ drop n d → n < length d → v ≡ f n → set xs n v ≡ listFrom f 0 (n + 1) ++ drop (n + 1) d
   listed-more xs n v e h q =
       let z : 0 + n ≡ n = omega arith in
-      rw (e, drop-cons d n 0, set-at (listFrom f 0 n) (getD d n 0) (drop (suc n) d) v n (length-listFrom f 0 n), q, add-one, listFrom-snoc f 0 n, z)
+      rw (e, drop-cons d n (f n), set-at (listFrom f 0 n) (getD d n (f n)) (drop (suc n) d) v n (length-listFrom f 0 n), q, add-one, listFrom-snoc f 0 n, z)
       (sym (append-assoc (listFrom f 0 n) (f n ∷ []) (drop (suc n) d)))
 
-  pub listed-all : (xs : List ℕ) (n : ℕ) → xs ≡ listFrom f 0 n ++ drop n d → xs ≡ over (listFrom f 0 n) d
+  pub listed-all : (xs : List X) (n : ℕ) → xs ≡ listFrom f 0 n ++ drop n d → xs ≡ over (listFrom f 0 n) d
   listed-all xs n e = e ∙ ap (λ (k : ℕ). listFrom f 0 n ++ drop k d) (sym (length-listFrom f 0 n))

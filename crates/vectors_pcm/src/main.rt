@@ -1,8 +1,9 @@
-// Prints V.90 Table 1 as crate pcm has it, a line for each law, sign and Ucode: LAW SIGN UCODE OCTET LINEAR.
+// Prints V.90 Table 1, a line for each law, sign and Ucode: LAW SIGN UCODE TABLE OCTET LINEAR, with the octet as printed and the octet by arithmetic.
 use io::print_decimal;
 use io::print_hex;
 use io::write_all;
 use standard::Law;
+use table1::printed_octet;
 
 // A signed number.
 fn print_signed(value: i32) {
@@ -22,6 +23,8 @@ fn print_row(law: Law, name: &[u8], sign: bool, ucode: u8) {
     print_decimal(1, sign as u64);
     write_all(1, b" ");
     print_decimal(1, ucode as u64);
+    write_all(1, b" ");
+    print_hex(1, printed_octet(law, sign, ucode) as u64, 2);
     write_all(1, b" ");
     print_hex(1, octets[0] as u64, 2);
     write_all(1, b" ");
