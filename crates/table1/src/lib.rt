@@ -1,4 +1,4 @@
-// V.90 Table 1 as printed. The codec makes its octets without it (`octet_of`) and reads the linear values alone.
+// V.90 Table 1 as printed. The codec reads its linear values alone: `pcm::octet_of` makes octets without it.
 use standard::Law;
 ghost use mathlib.Core.Path.{_≡_};
 ghost use Prim.Native.Nat.{_%_, _^_, _<_};
