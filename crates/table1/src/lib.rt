@@ -2,7 +2,7 @@
 use standard::Law;
 ghost use mathlib.Core.Path.{_≡_};
 ghost use Prim.Native.Nat.{_%_, _^_, _<_};
-ghost use Rattle.standard.specs.Octets.{octet, magnitude};
+ghost use Rattle.standard.specs.Octets.{positiveOctet, octet, magnitude};
 ghost use Rattle.table1.specs.Rows.{rowOf};
 
 // Its PCM columns: the positive octets of Ucodes 0 to 127, first those of µ-law, then those of A-law.
@@ -535,12 +535,20 @@ fn row_of(law: Law, ucode: u8) -> usize
     }
 }
 
-// The octet of a sign and a Ucode as the table has it: a negative octet lacks the top bit. Of a Ucode above 127 the seven low bits count.
+// The octet of a Ucode with the positive sign.
+fn positive_octet(law: Law, ucode: u8) -> u8
+    requires { ⌜ ucode < 128 ⌝ }
+    ensures { λ r. ⌜ r ≡ positiveOctet law ucode ⌝ }
+{
+    let row = row_of(law, ucode);
+    OCTETS[row]
+}
+
+// The octet of a sign and a Ucode as printed: a negative octet lacks the top bit. Of a Ucode above 127 the seven low bits count.
 pub fn printed_octet(law: Law, sign: bool, ucode: u8) -> u8
     ensures { λ r. ⌜ r ≡ octet law sign (ucode % 128) ⌝ }
 {
-    let row = row_of(law, ucode % 128);
-    let positive = OCTETS[row];
+    let positive = positive_octet(law, ucode % 128);
     if sign { positive } else { positive % 128 }
 }
 

@@ -17,6 +17,9 @@ module _ (l : Law) (os : List ℕ) where
   abbrev pub sampleAt : ℕ → ℤ
   sampleAt k = sampleOf l (getD os k 0)
 
+  samples-listed : map (sampleOf l) os ≡ listFrom sampleAt 0 (length os)
+  samples-listed = listFrom-is sampleAt (sampleOf l 0) (length os) (map (sampleOf l) os) (length-map os (sampleOf l)) (λ k h. List·getD-map (sampleOf l) os k 0)
+
   module _ (xs : List ℤ) where
     pub linear-refused : length xs < length os → (bare 17 ≡ linearRefusal (linearCall l os xs)) × (xs ≡ linearSamples (linearCall l os xs))
     unfolding first linearRefusal linearSamples
@@ -25,5 +28,4 @@ module _ (l : Law) (os : List ℕ) where
     pub linear-done : length os ≤ length xs
         → (bare 0 ≡ linearRefusal (linearCall l os xs)) × (over (listFrom sampleAt 0 (length os)) xs ≡ linearSamples (linearCall l os xs))
     unfolding first linearRefusal linearSamples
-    linear-done h =
-        rw (le-ltb (length xs) (length os) h, listFrom-is sampleAt (sampleOf l 0) (length os) (map (sampleOf l) os) (length-map os (sampleOf l)) (λ k i. List·getD-map (sampleOf l) os k 0)) (refl, refl)
+    linear-done h = rw (le-ltb (length xs) (length os) h, samples-listed) (refl, refl)
