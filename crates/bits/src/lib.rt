@@ -1,9 +1,9 @@
 // Bits in byte buffers and in numbers: bit n of a buffer is in byte n / 8, with weight 2 ^ (n % 8), and fields have their lowest bit first.
 ghost use mathlib.Core.Path.{_≡_};
-ghost use Prim.Native.Nat.{_+_, _*_, _/_, _^_, _<_, _≤_};
+ghost use Prim.Native.Nat.{_+_, _*_, _/_, _%_, _^_, _<_, _≤_};
 ghost use lib.ListN.{length};
 ghost use Rattle.standard.specs.Bits.{weight, bit, bitAt, field};
-ghost use Rattle.bits.specs.PutField.{byteWith, putField};
+ghost use Rattle.bits.specs.PutField.{wordWith, putField};
 
 // Bit n of the bytes; 0 past their end.
 pub fn bit_at(bytes: &[u8], n: usize) -> bool
@@ -16,8 +16,29 @@ pub fn bit_at(bytes: &[u8], n: usize) -> bool
     false
 }
 
-// The number in the `width` bits from bit `at` on, lowest bit first.
-pub fn field_at(bytes: &[u8], at: usize, width: usize) -> u64
+// A byte as a wider number.
+fn wide(byte: u8) -> u64
+    ensures { λ r. ⌜ (r ≡ byte) × (r < 256) ⌝ }
+{
+    byte as u64
+}
+
+// The eight bytes from byte i on, as a number.
+fn word_at(bytes: &[u8], i: usize) -> u64
+    requires { ⌜ i + 8 ≤ length (now bytes) ⌝ }
+    ensures { λ r. ⌜ r ≡ field (bitAt (now (bytes .entry))) (8 * i) 64 ⌝ }
+{
+    let mut word: u64 = 0;
+    let mut k = 0;
+    while k < 8 {
+        word = word | (wide(bytes[i + k]) << (8 * k));
+        k += 1;
+    }
+    word
+}
+
+// The number in the `width` bits from bit `at` on, bit by bit.
+fn field_by_bits(bytes: &[u8], at: usize, width: usize) -> u64
     requires { ⌜ (width ≤ 64) × (at ≤ 2 ^ 32) ⌝ }
     ensures { λ r. ⌜ r ≡ field (bitAt (now (bytes .entry))) at width ⌝ }
 {
@@ -31,22 +52,75 @@ pub fn field_at(bytes: &[u8], at: usize, width: usize) -> u64
     value
 }
 
-// The byte with `b` in place of its bit `k`.
-fn with_bit(byte: u8, k: usize, b: bool) -> u8
-    requires { ⌜ k < 8 ⌝ }
-    ensures { λ r. ⌜ r ≡ byteWith byte k b ⌝ }
+// The number in the `width` bits from bit `at` on, lowest bit first.
+pub fn field_at(bytes: &[u8], at: usize, width: usize) -> u64
+    requires { ⌜ (width ≤ 64) × (at ≤ 2 ^ 32) ⌝ }
+    ensures { λ r. ⌜ r ≡ field (bitAt (now (bytes .entry))) at width ⌝ }
 {
-    let place = 1u8 << k;
-    if b { byte | place } else { byte & !place }
+    let first = at / 8;
+    let shift = at % 8;
+    if (bytes.len() < first + 8) | (63 < shift + width) {
+        return field_by_bits(bytes, at, width);
+    }
+    (word_at(bytes, first) >> shift) % (1u64 << width)
 }
 
-// Puts `b` into bit n; all other bits stay.
-fn put_bit(bytes: &mut [u8], n: usize, b: bool)
+// The word with the lowest bits of `value` in place of its `width` bits from bit `shift` on.
+fn word_with(word: u64, shift: usize, width: usize, value: u64) -> u64
+    requires { ⌜ shift + width < 64 ⌝ }
+    ensures { λ r. ⌜ r ≡ wordWith word shift width value ⌝ }
+{
+    let other = ((word >> shift) ^ value) % (1u64 << width);
+    word ^ (other << shift)
+}
+
+// The lowest byte of a number.
+fn low_byte(word: u64) -> u8
+    ensures { λ r. ⌜ r ≡ word % 256 ⌝ }
+{
+    (word % 256) as u8
+}
+
+// Puts the lowest byte of a number into byte i.
+fn put_byte(bytes: &mut [u8], i: usize, word: u64)
+    requires { ⌜ i < length (now bytes) ⌝ }
+    ensures { λ r. ⌜ now (bytes .exit) ≡ putField (now (bytes .entry)) (8 * i) 8 word ⌝ }
+{
+    bytes[i] = low_byte(word);
+}
+
+// Puts the eight bytes of a number into those from byte i on.
+fn put_word(bytes: &mut [u8], i: usize, word: u64)
+    requires { ⌜ i + 8 ≤ length (now bytes) ⌝ }
+    ensures { λ r. ⌜ now (bytes .exit) ≡ putField (now (bytes .entry)) (8 * i) 64 word ⌝ }
+{
+    let mut k = 0;
+    while k < 8 {
+        put_byte(bytes, i + k, word >> (8 * k));
+        k += 1;
+    }
+}
+
+// Puts the lowest bit of `value` into bit n; all other bits stay.
+fn put_bit(bytes: &mut [u8], n: usize, value: u64)
     requires { ⌜ n < 8 * length (now bytes) ⌝ }
-    ensures { λ r. ⌜ now (bytes .exit) ≡ putField (now (bytes .entry)) n 1 (weight b) ⌝ }
+    ensures { λ r. ⌜ now (bytes .exit) ≡ putField (now (bytes .entry)) n 1 value ⌝ }
 {
     let at = n / 8;
-    bytes[at] = with_bit(bytes[at], n % 8, b);
+    let word = wide(bytes[at]);
+    put_byte(bytes, at, word_with(word, n % 8, 1, value));
+}
+
+// Puts the `width` lowest bits of `value` into the bits from `at` on, bit by bit.
+fn put_by_bits(bytes: &mut [u8], at: usize, width: usize, value: u64)
+    requires { ⌜ (width ≤ 64) × (at ≤ 2 ^ 32) × (at + width ≤ 8 * length (now bytes)) ⌝ }
+    ensures { λ r. ⌜ now (bytes .exit) ≡ putField (now (bytes .entry)) at width value ⌝ }
+{
+    let mut i = 0;
+    while i < width {
+        put_bit(bytes, at + i, value >> i);
+        i += 1;
+    }
 }
 
 // Puts the `width` lowest bits of `value` into the bits from `at` on, lowest first; all other bits stay.
@@ -54,11 +128,14 @@ pub fn put_field(bytes: &mut [u8], at: usize, width: usize, value: u64)
     requires { ⌜ (width ≤ 64) × (at ≤ 2 ^ 32) × (at + width ≤ 8 * length (now bytes)) ⌝ }
     ensures { λ r. ⌜ now (bytes .exit) ≡ putField (now (bytes .entry)) at width value ⌝ }
 {
-    let mut i = 0;
-    while i < width {
-        put_bit(bytes, at + i, (value >> i) % 2 == 1);
-        i += 1;
+    let first = at / 8;
+    let shift = at % 8;
+    if (bytes.len() < first + 8) | (63 < shift + width) {
+        put_by_bits(bytes, at, width, value);
+        return;
     }
+    let word = word_at(bytes, first);
+    put_word(bytes, first, word_with(word, shift, width, value));
 }
 
 // Bit n of a number.

@@ -1,70 +1,64 @@
--- `bits::put_field` meets its contract. The loop's invariant: the i lowest bits of `value` are put. Assumes nothing.
-use mathlib.Core.Path.{_≡_, refl, sym, ap, _∙_}
-use Prim.Native.Nat.{ℕ, _-_, _≤_}
+-- `bits::put_field` meets its contract: a word is put back with the field in it. Assumes nothing.
+use mathlib.Core.Path.{ap, _∙_}
+use Prim.Native.Nat.{ℕ, _+_, _*_, _/_, _%_, _≤_}
 use native.Mathlib.Omega.{arith}
+use borrow.Author.Needs.{needs}
 use lib.ListN.{length}
-use Rattle.bits.specs.PutField.{putField}
-use Rattle.bits.proofs.PutField.{putField-none, putField-step}
+use Rattle.standard.specs.Bits.{bit, bitAt}
+use Rattle.standard.proofs.Bits.{field-bit}
+use Rattle.bits.proofs.ByWords.{neither, put-back}
 use Rattle.bits.proofs.put_field.Statement.{statement}
 use Rattle.bits.proofs.put_field.Tie as tie
 
-abbrev Inv-loop : tie.InvT-loop
-Inv-loop bytes₀ at width value i₀ bytes i = (i ≤ width) × (length bytes ≡ length bytes₀) × (bytes ≡ putField bytes₀ at i value)
+inside : (c : tie.Else1) → let a = c .before .before .args in (a .at / 8 + 8 ≤ length (a .bytes .now)) × (a .at % 8 + a .width ≤ 63)
+inside c = let a = c .before .before .args in neither (length (a .bytes .now)) (a .at / 8 + 8) 63 (a .at % 8 + a .width) (c .if1 .left)
 
-abbrev μ-loop : tie.MeasureT-loop
-μ-loop bytes₀ at width value i₀ bytes i = width - i
+add-if1 : tie.Need-add-if1
+add-if1 c = search needs
 
-loop-holds : tie.Need-loop-holds Inv-loop μ-loop
-loop-holds c =
-    let a = c .before .args in
-    (omega arith, refl, sym (putField-none (a .bytes .now) (a .at) (a .value) (λ i. c .slice-known .given i .fits)))
+add-if1-2 : tie.Need-add-if1-2
+add-if1-2 c = search needs
 
-add-put-bit : tie.Need-add-put-bit Inv-loop μ-loop
-add-put-bit c = omega arith
+put-by-bits-requires : tie.Need-put-by-bits-requires
+put-by-bits-requires c κs = search needs
 
-shr-put-bit : tie.Need-shr-put-bit Inv-loop μ-loop
-shr-put-bit c = omega arith
+same-length : tie.Need-same-length
+same-length c = search needs
 
-put-bit-requires : tie.Need-put-bit-requires Inv-loop μ-loop
-put-bit-requires c κs = omega arith
+returns : tie.Need-returns
+returns c = search needs
 
-add-i : tie.Need-add-i Inv-loop μ-loop
-add-i c = omega arith
+word-at-requires : tie.Need-word-at-requires
+word-at-requires c κs = inside (c .before) .0
 
-loop-less : tie.Need-loop-less Inv-loop μ-loop
-loop-less c = omega arith
+word-with-requires : tie.Need-word-with-requires
+word-with-requires c κs = omega (arith, inside (c .before .before .before) .1)
 
-loop-again : tie.Need-loop-again Inv-loop μ-loop
-loop-again c =
-    let a = c .before .before .before .before .before .before .before .args in
-    let l = c .before .before .before .before .before .loop in
-    let call = c .before .before .put-bit in (
-      omega arith,
-      call .kept .0 ∙ l .inv .1,
-      putField-step (a .bytes .now) (l .bytes) (call .last .0) (a .at) (l .i) (a .value) (l .inv .2) (call .ensures),
-    )
+put-word-requires : tie.Need-put-word-requires
+put-word-requires c κs = inside (c .before .before .before .before) .0
 
-same-length : tie.Need-same-length Inv-loop μ-loop
-same-length c = c .before .loop .inv .1
+same-length-2 : tie.Need-same-length-2
+same-length-2 c = search needs
 
-returns : tie.Need-returns Inv-loop μ-loop
-returns c =
-    let a = c .before .before .before .args in
-    let e : c .before .loop .i ≡ a .width = omega arith in
-    c .before .loop .inv .2 ∙ ap (λ (k : ℕ). putField (a .bytes .now) (a .at) k (a .value)) e
+returns-2 : tie.Need-returns-2
+returns-2 c =
+    let a = c .before .before .before .before .before .before .before .before .before .args in
+    let s = a .bytes .now in
+    put-back s _ (a .at) 64 _ _ (a .width) (a .value) (omega arith) (omega (arith, inside (c .before .before .before .before .before .before .before) .1))
+    (λ j l. ap (λ (x : ℕ). bit x j) (c .before .before .before .before .before .word-at .ensures) ∙ field-bit (bitAt s) (8 * (a .at / 8)) 64 j l)
+    (c .before .before .before .word-with .ensures) (c .before .before .put-word .ensures)
 
 pub put-field-spec : {M : Type 1} → statement M
 put-field-spec =
     tie.close
     (tie.spec
-    Inv-loop
-    μ-loop
-    loop-holds
-    add-put-bit
-    shr-put-bit
-    put-bit-requires
-    add-i
-    loop-less
-    loop-again
+    add-if1
+    add-if1-2
+    put-by-bits-requires
     same-length
-    returns)
+    returns
+    word-at-requires
+    word-with-requires
+    put-word-requires
+    same-length-2
+    returns-2)
