@@ -1,4 +1,4 @@
-pub mod Passing
+pub mod Stream
 pub mod Turns
 pub mod Division
 pub mod Sending
