@@ -17,14 +17,14 @@ pub fn bit_at(bytes: &[u8], n: usize) -> bool
 }
 
 // A byte as a wider number.
-fn wide(byte: u8) -> u64
+pub fn wide(byte: u8) -> u64
     ensures { λ r. ⌜ (r ≡ byte) × (r < 256) ⌝ }
 {
     byte as u64
 }
 
 // The eight bytes from byte i on, as a number.
-fn word_at(bytes: &[u8], i: usize) -> u64
+pub fn word_at(bytes: &[u8], i: usize) -> u64
     requires { ⌜ i + 8 ≤ length (now bytes) ⌝ }
     ensures { λ r. ⌜ r ≡ field (bitAt (now (bytes .entry))) (8 * i) 64 ⌝ }
 {

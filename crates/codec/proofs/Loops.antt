@@ -22,8 +22,11 @@ use Rattle.standard.proofs.Scrambler.{pushAll-lt}
 use Rattle.standard.proofs.Frame.{length-sendFrames, length-receiveFrames, length-receiveMarks, sendFrames-next, sendAfter-next, receiveFrames-next, receiveAfter-next, receiveMarks-next}
 use Rattle.bits.specs.PutField.{putField}
 use Rattle.bits.proofs.PutField.{length-putField}
+use Rattle.mapping.specs.declared.Mapping.{Mapping}
+use Rattle.mapping.specs.Tables.{pointTables, labelTables}
+use Rattle.frame.specs.Parts.{Sendable, Receivable}
 use Rattle.codec.specs.Buffers.{bitsOver}
-use Rattle.codec.specs.Loops.{Sending, Receiving}
+use Rattle.codec.specs.Loops.{Drawn, Sending, Receiving}
 use Rattle.codec.proofs.Buffers.{frame-bits, frame-octets, front-more, bitsOver-none, bitsOver-more, bitsOver-bytes}
 
 -- ---- sending
@@ -39,6 +42,11 @@ module _ (r : Record) (l : Law) (N : ℕ) (st : LineState) (bytes os₀ : List �
   pub send-start : st .history < 2 ^ 23 → Sending r l N st ds os₀ 0 st os₀
   unfolding sendFrames sendAfter parts joined each after
   send-start h = record { done = omega arith; low = h; left = refl; long = refl; octets = refl }
+
+  pub sendable : (n width : ℕ) (m : Mapping) (ps : List (List ℕ)) (state : LineState) (os : List ℕ) → Drawn pointTables r st N width m ps → Sending r l N st ds os₀ n state os → n < N
+      → Sendable r m ps state
+  sendable n width m ps state os d p h =
+      record { rate = d .allowed .rate; mapped = d .mapped; points = d .tabled; holds = d .allowed .holds (omega arith); history = p .low }
 
   pub send-more : (n word : ℕ) (state next : LineState) (os six : List ℕ) → Sending r l N st ds os₀ n state os → n < N → 6 * N ≤ length os₀
       → word ≡ field (bitAt bytes) (n * D r) (D r) → next ≡ sendNext state (bitsOf (D r) word) → six ≡ sendFrame r l state (bitsOf (D r) word)
@@ -105,6 +113,10 @@ module _ (r : Record) (l : Law) (N : ℕ) (st : LineState) (line bs₀ ms₀ : L
         longMarks = refl;
         marks = refl;
       }
+
+  pub receivable : (n width : ℕ) (m : Mapping) (ls : List (List ℕ)) (state : LineState) (bs ms : List ℕ) → Drawn labelTables r st N width m ls → Receiving r l N st os bs₀ ms₀ n state bs ms
+      → Receivable r m ls state
+  receivable n width m ls state bs ms d p = record { rate = d .allowed .rate; mapped = d .mapped; labels = d .tabled; history = p .low }
 
   pub receive-more : (n m word width : ℕ) (state next : LineState) (bs bs′ ms part : List ℕ) → Receiving r l N st os bs₀ ms₀ n state bs ms → n < N → 6 * N ≤ length line → N ≤ length ms₀
       → part ≡ take (6 * n + 6 - 6 * n) (drop (6 * n) line) → m ≡ mark r l part → next ≡ receiveNext r l state part → word ≡ numberOf (receiveFrame r l state part)

@@ -5,11 +5,22 @@ use mathlib.Core.Bool.{Bool}
 use mathlib.Core.List.{List, _++_}
 use lib.ListN.{length, drop}
 use Rattle.standard.specs.Bits.{nth}
+use Rattle.standard.specs.Record.{D}
 use Rattle.standard.specs.Frame.{dataBits, sendFrames, sendAfter, receiveFrames, receiveMarks, receiveAfter}
 use Rattle.standard.specs.declared.Law.{Law}
 use Rattle.standard.specs.declared.LineState.{LineState}
 use Rattle.standard.specs.declared.Record.{Record}
+use Rattle.mapping.specs.declared.Mapping.{Mapping}
+use Rattle.mapping.specs.Tables.{mappingOf}
+use Rattle.codec.specs.Allowed.{Allowed}
 use Rattle.codec.specs.Buffers.{bitsOver}
+
+-- the record r allows a call of N frames from the state st, and width, m and the tables ts are drawn up of it
+pub record Drawn (tables : Record → List (List ℕ)) (r : Record) (st : LineState) (N width : ℕ) (m : Mapping) (ts : List (List ℕ)) : Type 0 where
+  pub allowed : Allowed r st N
+  pub wide : width ≡ D r
+  pub mapped : m ≡ mappingOf r
+  pub tabled : ts ≡ tables r
 
 -- the data bits ds sent from the state st, into the octets os₀
 pub record Sending (r : Record) (l : Law) (N : ℕ) (st : LineState) (ds : List Bool) (os₀ : List ℕ) (n : ℕ) (state : LineState) (os : List ℕ) : Type 0 where

@@ -118,7 +118,9 @@ fn send_frames(
     ensures { λ x. ⌜ (x ≡ sendAfter r frames state (bitsIn (dataBits r frames) (now (bytes .entry))))
         × (now (octets .exit) ≡ over (sendFrames r law frames state (bitsIn (dataBits r frames) (now (bytes .entry)))) (now (octets .entry))) ⌝ }
 {
-    let sizes = constellation::sizes_of(r);
+    let mut points = [[0u8; 128]; 6];
+    let mut labels = [[0u8; 128]; 6];
+    let mapping = mapping::draw_up(r, &mut points, &mut labels);
     let width = frame_width(r);
     let mut left = state;
     let mut n = 0;
@@ -126,7 +128,7 @@ fn send_frames(
         let bits = bits::field_at(bytes, n * width, width);
         let at = 6 * n;
         let end = at + 6;
-        left = frame::send_frame(r, law, sizes, left, bits, &mut octets[at..end]);
+        left = frame::send_frame(law, mapping, &points, left, bits, &mut octets[at..end]);
         n += 1;
     }
     left
@@ -147,14 +149,16 @@ fn receive_frames(
         × (now (bytes .exit) ≡ over (bytesOf (bytesFor (dataBits r frames)) (nth (receiveFrames r law frames state (take (6 * frames) (now (octets .entry)))))) (now (bytes .entry)))
         × (now (marks .exit) ≡ over (receiveMarks r law frames (take (6 * frames) (now (octets .entry)))) (now (marks .entry))) ⌝ }
 {
-    let sizes = constellation::sizes_of(r);
+    let mut points = [[0u8; 128]; 6];
+    let mut labels = [[0u8; 128]; 6];
+    let mapping = mapping::draw_up(r, &mut points, &mut labels);
     let width = frame_width(r);
     let mut left = state;
     let mut n = 0;
     while n < frames {
         let at = 6 * n;
         let end = at + 6;
-        let got = frame::receive_frame(r, law, sizes, left, &octets[at..end]);
+        let got = frame::receive_frame(law, mapping, &labels, left, &octets[at..end]);
         bits::put_field(bytes, n * width, width, got.bits);
         marks[n] = got.mark;
         left = got.state;

@@ -8,12 +8,12 @@ ghost use Prim.Native.Nat.{_<_, _≤_, max};
 ghost use Rattle.standard.specs.First.{first};
 ghost use Rattle.standard.specs.Record.{indexOf, topIndex};
 ghost use Rattle.standard.specs.Cp.{within};
-ghost use Rattle.standard.specs.Constellation.{sizeOf, labelOf, pointOf, sizes};
+ghost use Rattle.standard.specs.Constellation.{sizeOf, labelOf, sizes};
 ghost use Rattle.standard.specs.Modulus.{product};
 ghost use Rattle.standard.specs.Refusals.{outcomeAnswer, indexTooLarge, grantedBelowFullRate, intervalEmpty, productTooSmall, maskAboveIndices, emptyTests, rateTests, recordTests};
 ghost use Rattle.constellation.specs.Mask.{has, maskOf, Indexed};
 
-// Masks: sizes, membership, labels and points, and what a record is refused for.
+// Masks: sizes, membership and labels, and what a record is refused for.
 
 // A mask: Ucodes 0 to 63 and 64 to 127, a bit for each.
 pub struct Mask {
@@ -62,24 +62,6 @@ pub fn label_of(m: Mask, ucode: u8) -> u64
         return (u64::count_ones(above(m.low, ucode)) + u64::count_ones(m.high)) as u64;
     }
     u64::count_ones(above(m.high, ucode - 64)) as u64
-}
-
-// The Ucode that a label names: the one with as many members of the mask above it.
-pub fn point_of(m: Mask, label: u64) -> u8
-    ensures { λ r. ⌜ (r ≡ pointOf (has m) 128 label) × (r < 128) ⌝ }
-{
-    let mut left = label;
-    let mut u: u8 = 128;
-    while 0 < u {
-        u -= 1;
-        if belongs(m, u) {
-            if left == 0 {
-                return u;
-            }
-            left -= 1;
-        }
-    }
-    0
 }
 
 // M0 to M5.

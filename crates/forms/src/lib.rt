@@ -19,12 +19,13 @@ fn indices_at(bytes: &[u8]) -> [u8; 6]
 
 // The twelve halves of the masks, from byte 9 on.
 fn masks_at(bytes: &[u8]) -> [u64; 12]
+    requires { ⌜ 105 ≤ length (now bytes) ⌝ }
     ensures { λ x. ⌜ x ≡ listFrom (halfAt (now (bytes .entry))) 0 12 ⌝ }
 {
     let mut mask = [0u64; 12];
     let mut h = 0;
     while h < 12 {
-        mask[h] = bits::field_at(bytes, 72 + 64 * h, 64);
+        mask[h] = bits::word_at(bytes, 9 + 8 * h);
         h += 1;
     }
     mask

@@ -1,120 +1,112 @@
 -- A frame received: its mark, its number and its bits. Assumes nothing.
 use mathlib.Core.Path.{_≡_, refl, sym, ap, ap₂, _∙_}
 use Prim.Native.Nat.{ℕ, suc, _+_, _*_, _-_, _%_, _^_, _≤_, _<_}
-use mathlib.Core.Bool.{Bool, true, false, not}
+use mathlib.Core.Bool.{Bool, true, false}
 use mathlib.Core.List.{List, [], _∷_, _++_}
 use native.Mathlib.Nat.{add-comm, mul-le-mul, le-refl, lt-of-lt-of-le}
 use native.Mathlib.Omega.{arith}
-use borrow.Author.Tests.{le-leb, lt-leb, eq-eqb, ne-eqb}
+use borrow.Author.Tests.{le-leb, lt-leb, eq-eqb, ne-eqb, not-false}
 use lib.Bits.{bitOr}
-use lib.Dec.{leb}
+use lib.Dec.{eqb, leb}
 use lib.ListN.{length, getD, drop, replicate, drop-of-length-le}
 use lib.Pow.{pow-add, pow-mono}
 use lib.Seq.{drop-cons}
 use Rattle.standard.specs.Lists.{listFrom}
-use Rattle.standard.specs.First.{Answer, bare, Test, test, first}
+use Rattle.standard.specs.First.{Test, test, first}
 use Rattle.standard.specs.Bits.{numberOf, bitsOf}
 use Rattle.standard.specs.Record.{K, D}
 use Rattle.standard.specs.Scrambler.{pushAll, descramble}
-use Rattle.standard.specs.Constellation.{labelOf, member, label, sizes}
+use Rattle.standard.specs.Constellation.{member, label, sizes}
 use Rattle.standard.specs.Modulus.{number}
 use Rattle.standard.specs.Signs.{signBits}
 use Rattle.standard.specs.Frame.{outsideTest, outsideTests, signAt, ucodeAt, receivedNumber, markTests, mark, good, heardBits, receiveFrame, receiveNext}
 use Rattle.standard.specs.declared.Law.{Law}
 use Rattle.standard.specs.declared.LineState.{LineState}
 use Rattle.standard.specs.declared.Record.{Record}
-use Rattle.standard.proofs.Lists.{length-listFrom, listFrom-cons}
-use Rattle.standard.proofs.First.{same-number, firstFrom, turn-hit, turn-past, first-left, none-first, first-append}
+use Rattle.standard.proofs.Lists.{length-listFrom, getD-list, listFrom-is, listFrom-ext}
+use Rattle.standard.proofs.First.{same-number, first-left, none-first, none-at, first-append}
 use Rattle.standard.proofs.Bits.{numberOf-lt, bits-back}
-use Rattle.standard.proofs.Constellation.{sizeOf-le}
+use Rattle.standard.proofs.Octets.{ucode-lt}
 use Rattle.standard.proofs.Signs.{length-signBits}
-use Rattle.standard.proofs.Frame.{length-sizes, size-at, length-heardBits}
-use Rattle.constellation.specs.declared.Mask.{Mask}
-use Rattle.constellation.specs.Mask.{has, maskOf}
-use Rattle.standard.proofs.Words.{above-six, number-append, bits-number, zero-number}
-use Rattle.constellation.proofs.Masks.{mask-member, mask-label, label-le}
+use Rattle.standard.proofs.Frame.{length-heardBits}
+use Rattle.standard.proofs.Words.{one-shifted, above-six, number-append, bits-number, zero-number}
+use Rattle.mapping.specs.declared.Mapping.{Mapping}
+use Rattle.mapping.specs.Tables.{mappingOf, labelOrNone, labelTables}
+use Rattle.mapping.proofs.Tables.{width-le, label-in, none-outside, label-inside}
+use Rattle.frame.specs.Parts.{labelIn, noneTest}
 
-pub label-small : (u c : ℕ) (m : Mask) → u < 128 → c ≡ labelOf (has m) 128 u → c ≤ 128
-label-small u c m lu ec = rw ec (label-le (has m) 128 u lu)
+-- ---- the number of six labels, from label 5 down to label 0
+
+-- n is the number that the labels cs form from interval i on, where Ms are the sizes
+pub record Formed (Ms cs : List ℕ) (n i : ℕ) : Type 0 where
+  pub value : n ≡ number (drop i Ms) (drop i cs)
+  pub small : n < 2 ^ (8 * (6 - i))
+
+module _ (Ms cs : List ℕ) (six : length Ms ≡ 6) where
+  pub formed-none : Formed Ms cs 0 6
+  unfolding number
+  formed-none = record { value = rw (drop-of-length-le Ms {i = 6} (omega (arith, six))); small = omega arith }
+
+  module _ (few : (i : ℕ) → getD Ms i 0 ≤ 128) (n i : ℕ) (p : Formed Ms cs n i) (pos : 0 < i) (le : i ≤ 6) (c : ℕ) (lc : c < 256) where
+    grown : getD Ms (i - 1) 0 * n + c < 2 ^ (8 * (6 - (i - 1)))
+    grown =
+        let e : 8 * (6 - (i - 1)) ≡ 8 + 8 * (6 - i) = omega arith in
+        let m : getD Ms (i - 1) 0 * n ≤ 128 * n = mul-le-mul (few (i - 1)) (le-refl n) in
+        rw (e, pow-add 2 8 (8 * (6 - i))) (omega (arith, p .small))
+
+    pub formed-fits : getD Ms (i - 1) 0 * n + c < 2 ^ 48
+    formed-fits = lt-of-lt-of-le grown (pow-mono {i = 8 * (6 - (i - 1))} {j = 48} (omega arith))
+
+    apart : (xs : List ℕ) → length xs ≡ 6 → drop (i - 1) xs ≡ getD xs (i - 1) 0 ∷ drop i xs
+    apart xs e =
+        let s : suc (i - 1) ≡ i = omega arith in
+        drop-cons xs (i - 1) 0 (omega arith) ∙ ap (λ (k : ℕ). getD xs (i - 1) 0 ∷ drop k xs) s
+
+    pub formed-more : length cs ≡ 6 → c ≡ getD cs (i - 1) 0 → Formed Ms cs (getD Ms (i - 1) 0 * n + c) (i - 1)
+    unfolding number
+    formed-more long ec =
+        record {
+          value =
+              ap₂ (λ (x y : ℕ). getD Ms (i - 1) 0 * x + y) (p .value) ec
+              ∙ add-comm (getD Ms (i - 1) 0 * number (drop i Ms) (drop i cs)) (getD cs (i - 1) 0)
+              ∙ sym (ap₂ number (apart Ms six) (apart cs long));
+          small = grown;
+        }
 
 module _ (r : Record) (l : Law) (os : List ℕ) where
-  -- ---- the tests of marks 1 to 6, one a turn
+  -- ---- the labels found in a table by Ucode
 
-  abbrev pub outsideFrom : ℕ → Answer
-  outsideFrom = firstFrom (outsideTest r l os) 6
+  module _ (ls : List (List ℕ)) (el : ls ≡ labelTables r) (found : List ℕ) (ef : found ≡ listFrom (labelIn l ls os) 0 6) where
+    found-at : (i : ℕ) → i < 6 → getD found i 0 ≡ labelOrNone (member r i) (ucodeAt l os i)
+    unfolding labelIn
+    found-at i h =
+        ap (λ (x : List ℕ). getD x i 0) ef ∙ getD-list (labelIn l ls os) 0 6 i h ∙ label-in r ls i h el (ucodeAt l os i) (ucode-lt l (getD os i 0))
 
-  module _ (i : ℕ) (m : Mask) (u : ℕ) (b : Bool) (em : m ≡ maskOf r i) (eu : u ≡ ucodeAt l os i) (lu : u < 128) (eb : b ≡ has m u) where
-    belongs-is : b ≡ member r i (ucodeAt l os i)
-    belongs-is = eb ∙ ap (λ (x : Mask). has x u) em ∙ mask-member r i u lu ∙ ap (member r i) eu
+    tests-are : listFrom (noneTest found) 0 6 ≡ outsideTests r l os
+    unfolding noneTest outsideTests outsideTest
+    tests-are =
+        listFrom-ext (noneTest found) (outsideTest r l os) 6
+        (λ i h. ap (test (i + 1)) (ap (λ (x : ℕ). eqb x 255) (found-at i h) ∙ none-outside (member r i) (ucodeAt l os i) (ucode-lt l (getD os i 0))))
 
-    pub outside-here : i < 6 → not b ≡ true → outsideFrom i ≡ bare (i + 1)
-    unfolding outsideTest
-    outside-here h e = turn-hit (outsideTest r l os) 6 i h (sym (ap not belongs-is) ∙ e)
+    pub outside-is : (x : ℕ) → x ≡ first (listFrom (noneTest found) 0 6) .number → x ≡ first (outsideTests r l os) .number
+    outside-is x e = e ∙ ap (λ (ts : List Test). first ts .number) tests-are
 
-    pub outside-past : i < 6 → not b ≡ false → outsideFrom i ≡ outsideFrom (i + 1)
-    unfolding outsideTest
-    outside-past h e = turn-past (outsideTest r l os) 6 i h (sym (ap not belongs-is) ∙ e)
+    -- where none is outside its mask
+    pub number-is : first (outsideTests r l os) .number ≡ 0 → (m : Mapping) → m ≡ mappingOf r → number (m .sizes) found ≡ receivedNumber r l os
+    unfolding receivedNumber outsideTests outsideTest listFrom
+    number-is e m em =
+        ap₂ (λ (x : Mapping) (cs : List ℕ). number (x .sizes) cs) em (listFrom-is (λ i. label r i (ucodeAt l os i)) 0 6 found (ap length ef ∙ length-listFrom (labelIn l ls os) 0 6) inside)
+      where
+        inside : (i : ℕ) → i < 6 → getD found i 0 ≡ label r i (ucodeAt l os i)
+        inside i h =
+            let none = none-at (outsideTests r l os) (none-first (outsideTests r l os) tt e) i (omega (arith, length-listFrom (outsideTest r l os) 0 6)) (outsideTest r l os 0) in
+            found-at i h
+            ∙ label-inside (member r i) (ucodeAt l os i) (ucode-lt l (getD os i 0))
+            (not-false _ (sym (ap (λ (t : Test). t .applies) (getD-list (outsideTest r l os) (outsideTest r l os 0) 6 i h)) ∙ none))
 
-  -- ---- the number R, from label 5 down to label 0
-
-  abbrev pub labelIn : ℕ → ℕ
-  labelIn i = label r i (ucodeAt l os i)
-
-  -- n is the number that the labels from interval i on form, where Ms are the sizes
-  pub record Formed (Ms : List ℕ) (n i : ℕ) : Type 0 where
-    pub value : n ≡ number (drop i Ms) (listFrom labelIn i (6 - i))
-    pub small : n < 2 ^ (8 * (6 - i))
-
-  module _ (Ms : List ℕ) (eM : Ms ≡ sizes r) where
-    six : length Ms ≡ 6
-    six = ap length eM ∙ length-sizes r
-
-    pub formed-none : Formed Ms 0 6
-    unfolding number listFrom
-    formed-none = record { value = rw (drop-of-length-le Ms {i = 6} (omega (arith, six))); small = omega arith }
-
-    pub formed-all : (n : ℕ) → Formed Ms n 0 → n ≡ receivedNumber r l os
-    unfolding receivedNumber
-    formed-all n p = p .value ∙ ap (λ (x : List ℕ). number x (listFrom labelIn 0 6)) eM
-
-    module _ (n i : ℕ) (p : Formed Ms n i) (pos : 0 < i) (le : i ≤ 6) where
-      size-le : getD Ms (i - 1) 0 ≤ 128
-      size-le = rw (eM, size-at r (i - 1) (omega arith)) (sizeOf-le (member r (i - 1)) 128)
-
-      grown : (c : ℕ) → c ≤ 128 → getD Ms (i - 1) 0 * n + c < 2 ^ (8 * (6 - (i - 1)))
-      grown c lc =
-          let e : 8 * (6 - (i - 1)) ≡ 8 + 8 * (6 - i) = omega arith in
-          let m : getD Ms (i - 1) 0 * n ≤ 128 * n = mul-le-mul size-le (le-refl n) in
-          rw (e, pow-add 2 8 (8 * (6 - i))) (omega (arith, p .small))
-
-      pub formed-fits : (c : ℕ) → c ≤ 128 → getD Ms (i - 1) 0 * n + c < 2 ^ 48
-      formed-fits c lc = lt-of-lt-of-le (grown c lc) (pow-mono {i = 8 * (6 - (i - 1))} {j = 48} (omega arith))
-
-      sizes-cons : drop (i - 1) Ms ≡ getD Ms (i - 1) 0 ∷ drop i Ms
-      sizes-cons =
-          let e : suc (i - 1) ≡ i = omega arith in
-          drop-cons Ms (i - 1) 0 (omega (arith, six)) ∙ ap (λ (k : ℕ). getD Ms (i - 1) 0 ∷ drop k Ms) e
-
-      labels-cons : listFrom labelIn (i - 1) (6 - (i - 1)) ≡ labelIn (i - 1) ∷ listFrom labelIn i (6 - i)
-      labels-cons =
-          let a : i - 1 + 1 ≡ i = omega arith in
-          let b : 6 - (i - 1) - 1 ≡ 6 - i = omega arith in
-          listFrom-cons labelIn (i - 1) (6 - (i - 1)) (omega arith) ∙ ap₂ (λ (j k : ℕ). labelIn (i - 1) ∷ listFrom labelIn j k) a b
-
-      pub formed-more : (c : ℕ) → c ≡ label r (i - 1) (ucodeAt l os (i - 1)) → c ≤ 128 → Formed Ms (getD Ms (i - 1) 0 * n + c) (i - 1)
-      unfolding number
-      formed-more c ec lc =
-          record {
-            value =
-                ap₂ (λ (x y : ℕ). getD Ms (i - 1) 0 * x + y) (p .value) ec
-                ∙ add-comm (getD Ms (i - 1) 0 * number (drop i Ms) (listFrom labelIn i (6 - i))) (labelIn (i - 1))
-                ∙ sym (ap₂ number sizes-cons labels-cons);
-            small = grown c lc;
-          }
-
-  -- the label c of interval i, of its mask m and its Ucode u
-  pub label-is : (i u c : ℕ) (m : Mask) → m ≡ maskOf r i → u ≡ ucodeAt l os i → c ≡ labelOf (has m) 128 u → c ≡ label r i (ucodeAt l os i)
-  label-is i u c m em eu ec = ec ∙ ap₂ (λ (x : Mask) (v : ℕ). labelOf (has x) 128 v) em eu ∙ mask-label r i (ucodeAt l os i)
+  -- 2 ^ K, as code shifts it
+  pub limit-is : (m : Mapping) → m ≡ mappingOf r → r .drn ≤ 28 → 1 * 2 ^ (m .k) % 2 ^ 64 ≡ 2 ^ K r
+  limit-is m em rate = one-shifted (m .k) (omega (arith, width-le r m em rate)) ∙ ap (λ (x : Mapping). 2 ^ (x .k)) em
 
   -- ---- the mark
 
@@ -147,9 +139,12 @@ module _ (r : Record) (l : Law) (os : List ℕ) where
       bad : good r l os ≡ false
       bad = ne-eqb (mark r l os) 0 (λ (e : mark r l os ≡ 0). omega arith)
 
-      pub marked-next : (x : LineState) → x .history ≡ pushAll (st .history) (replicate (D r) false) → x .sign ≡ signAt os 5 → x ≡ receiveNext r l st os
+      pub marked-next : (m : Mapping) → m ≡ mappingOf r → (x : LineState) → x .history ≡ pushAll (st .history) (replicate (m .k + 6) false) → x .sign ≡ signAt os 5
+          → x ≡ receiveNext r l st os
       unfolding receiveNext heardBits
-      marked-next x eh es = rw bad (ap₂ (λ (h : ℕ) (s : Bool). record { history = h; sign = s }) eh es)
+      marked-next m em x eh es =
+          let zeros = ap (λ (y : Mapping). pushAll (st .history) (replicate (y .k + 6) false)) em in
+          rw bad (ap₂ (λ (h : ℕ) (s : Bool). record { history = h; sign = s }) (eh ∙ zeros) es)
 
       pub marked-number : 0 ≡ numberOf (receiveFrame r l st os)
       unfolding receiveFrame
@@ -172,15 +167,16 @@ module _ (r : Record) (l : Law) (os : List ℕ) where
       six-long = length-signBits (st .sign) (listFrom (signAt os) 0 6) ∙ length-listFrom (signAt os) 0 6
 
       -- the bits on the line, as code joins them: the sign bits s below the number n
-      pub heard-bits : (s n : ℕ) → s ≡ numberOf sixBits → n ≡ receivedNumber r l os → r .drn ≤ 28 → bitsOf (D r) (bitOr s (n * 64 % 2 ^ 64)) ≡ heardBits r l (st .sign) os
-      heard-bits s n es en rate =
+      pub heard-bits : (m : Mapping) → m ≡ mappingOf r → (s n : ℕ) → s ≡ numberOf sixBits → n ≡ receivedNumber r l os → r .drn ≤ 28
+          → bitsOf (m .k + 6) (bitOr s (n * 64 % 2 ^ 64)) ≡ heardBits r l (st .sign) os
+      heard-bits m em s n es en rate =
           let low : s < 64 = rw es (rw six-long at (numberOf-lt sixBits)) in
           let high : n < 2 ^ 42 = rw en (lt-of-lt-of-le fits (pow-mono {i = K r} {j = 42} (omega arith))) in
           let q : bitOr s (n * 64 % 2 ^ 64) ≡ numberOf (heardBits r l (st .sign) os) =
           above-six s n low high ∙ ap₂ (λ (x y : ℕ). x + 64 * y) es (en ∙ sym (bits-number (K r) (receivedNumber r l os) fits))
           ∙ sym (ap numberOf heard-is ∙ number-append sixBits (bitsOf (K r) (receivedNumber r l os))
           ∙ ap (λ (k : ℕ). numberOf sixBits + 2 ^ k * numberOf (bitsOf (K r) (receivedNumber r l os))) six-long) in
-          ap (bitsOf (D r)) q ∙ bits-back (D r) (heardBits r l (st .sign) os) (length-heardBits r l (st .sign) os)
+          ap₂ (λ (y : Mapping) (x : ℕ). bitsOf (y .k + 6) x) em q ∙ bits-back (D r) (heardBits r l (st .sign) os) (length-heardBits r l (st .sign) os)
 
       pub heard-data : descramble (st .history) (heardBits r l (st .sign) os) ≡ receiveFrame r l st os
       unfolding receiveFrame

@@ -1,17 +1,17 @@
 -- A frame sent: what the parts of the code give is what the definition says. Assumes nothing.
-use mathlib.Core.Path.{_≡_, ap, ap₂, _∙_}
-use Prim.Native.Nat.{ℕ, _/_, _%_, _^_, _<_}
+use mathlib.Core.Path.{_≡_, refl, ap, ap₂, _∙_}
+use Prim.Native.Nat.{ℕ, _+_, _/_, _%_, _^_, _<_}
 use mathlib.Core.Bool.{Bool}
-use mathlib.Core.List.{List}
-use native.Mathlib.Nat.{mod-eq-of-lt}
+use mathlib.Core.List.{List, []}
+use native.Mathlib.Nat.{mod-eq-of-lt, le-trans}
 use native.Mathlib.Omega.{arith}
 use lib.ListN.{length, getD, drop, length-drop}
 use Rattle.standard.specs.Lists.{listFrom}
 use Rattle.standard.specs.Bits.{bit, nth, numberOf, bitsOf}
 use Rattle.standard.specs.Record.{K, D}
 use Rattle.standard.specs.Scrambler.{pushAll, scramble}
-use Rattle.standard.specs.Constellation.{pointOf, point, sizes}
-use Rattle.standard.specs.Modulus.{labels}
+use Rattle.standard.specs.Constellation.{member, size, point, sizes}
+use Rattle.standard.specs.Modulus.{product, labels}
 use Rattle.standard.specs.Signs.{signsOf}
 use Rattle.standard.specs.Octets.{octet}
 use Rattle.standard.specs.Frame.{lineBits, frameSigns, frameLabels, frameOctets, sendFrame, sendNext}
@@ -22,18 +22,14 @@ use Rattle.standard.proofs.Lists.{listFrom-ext}
 use Rattle.standard.proofs.Bits.{numberOf-lt, length-bitsOf}
 use Rattle.standard.proofs.Scrambler.{length-scramble}
 use Rattle.standard.proofs.Signs.{length-signsOf}
-use Rattle.constellation.specs.declared.Mask.{Mask}
-use Rattle.constellation.specs.Mask.{has, maskOf}
-use Rattle.frame.specs.Parts.{octetIn}
+use Rattle.standard.proofs.Modulus.{within-at, labels-within}
+use Rattle.standard.proofs.Constellation.{point-lt}
+use Rattle.standard.proofs.Frame.{length-sizes}
 use Rattle.standard.proofs.Words.{number-bit, number-take, number-drop}
-use Rattle.constellation.proofs.Masks.{mask-point}
-
--- the octet in interval i, of its mask m, its Ucode u and its sign s
-pub octet-is : (r : Record) (l : Law) (cs : List ℕ) (signs i o u : ℕ) (m : Mask) (s : Bool) → m ≡ maskOf r i
-    → u ≡ pointOf (has m) 128 (getD cs i 0) → u < 128 → s ≡ bit signs i → o ≡ octet l s (u % 128) → o ≡ octetIn r l cs signs i
-unfolding octetIn
-octet-is r l cs signs i o u m s em eu lu es eo =
-    eo ∙ ap₂ (octet l) es (mod-eq-of-lt lu ∙ eu ∙ ap (λ (x : Mask). pointOf (has x) 128 (getD cs i 0)) em ∙ mask-point r i (getD cs i 0))
+use Rattle.mapping.specs.declared.Mapping.{Mapping}
+use Rattle.mapping.specs.Tables.{mappingOf, pointTables}
+use Rattle.mapping.proofs.Tables.{size-le, point-in}
+use Rattle.frame.specs.Parts.{Sendable, octetIn}
 
 -- a frame of the line bits ss, whose number is w
 module _ (r : Record) (ss : List Bool) (long : length ss ≡ D r) (w : ℕ) (ew : w ≡ numberOf ss) where
@@ -57,27 +53,62 @@ module _ (r : Record) (ss : List Bool) (long : length ss ≡ D r) (w : ℕ) (ew 
         ap (λ (x : ℕ). bit x i) en ∙ number-bit (signsOf g (bitsOf 6 w)) i (omega (arith, length-signsOf g (bitsOf 6 w), length-bitsOf 6 w))
         ∙ ap (λ (bs : List Bool). nth bs i) (signs-are g)
 
-    pub octets-are : (l : Law) (Ms cs os : List ℕ) → Ms ≡ sizes r → cs ≡ labels Ms (w / 64) → os ≡ listFrom (octetIn r l cs n) 0 6 → os ≡ frameOctets r l g ss
+    pub octets-are : (l : Law) (ps : List (List ℕ)) (cs os : List ℕ) → ps ≡ pointTables r → cs ≡ labels (sizes r) (w / 64) → ((i : ℕ) → i < 6 → getD cs i 0 < 128)
+        → os ≡ listFrom (octetIn l ps cs n) 0 6 → os ≡ frameOctets r l g ss
     unfolding octetIn frameOctets
-    octets-are l Ms cs os eM ec eo =
+    octets-are l ps cs os ep ec small eo =
         eo
-        ∙ listFrom-ext (octetIn r l cs n) (λ i. octet l (nth (frameSigns g ss) i) (point r i (getD (frameLabels r ss) i 0))) 6
-        (λ i h. ap₂ (λ (s : Bool) (ls : List ℕ). octet l s (point r i (getD ls i 0))) (sign-is i h) (ec ∙ ap (λ (x : List ℕ). labels x (w / 64)) eM ∙ labels-are))
+        ∙ listFrom-ext (octetIn l ps cs n) (λ i. octet l (nth (frameSigns g ss) i) (point r i (getD (frameLabels r ss) i 0))) 6
+        (λ i h. ap₂ (octet l) (sign-is i h) (ucode i h ∙ ap (λ (ls : List ℕ). point r i (getD ls i 0)) (ec ∙ labels-are)))
+      where
+        ucode : (i : ℕ) → i < 6 → getD (getD ps i []) (getD cs i 0) 0 % 128 ≡ point r i (getD cs i 0)
+        ucode i h =
+            ap (λ (u : ℕ). u % 128) (point-in r ps i h ep (getD cs i 0) (small i h)) ∙ mod-eq-of-lt (point-lt (member r i) 128 (getD cs i 0) (omega arith))
 
--- a frame of D data bits, from the state st
-module _ (r : Record) (l : Law) (st : LineState) (ds : List Bool) (fit : length ds ≡ D r) (w : ℕ) (ew : w ≡ numberOf (scramble (st .history) ds)) where
-  long : length (scramble (st .history) ds) ≡ D r
-  long = length-scramble (st .history) ds ∙ fit
+-- a frame of the D lowest bits of a word, sent from the state st; w is the number of its bits on the line
+module _ (r : Record) (l : Law) (m : Mapping) (ps : List (List ℕ)) (st : LineState) (s : Sendable r m ps st) (word w : ℕ)
+    (ew : w ≡ numberOf (scramble (st .history) (bitsOf (m .k + 6) word))) where
+  abbrev ds : List Bool
+  ds = bitsOf (D r) word
 
-  pub sent-lt : w / 64 < 2 ^ K r
-  sent-lt = number-lt r (scramble (st .history) ds) long w ew
+  abbrev ss : List Bool
+  ss = scramble (st .history) ds
 
-  module _ (n : ℕ) (en : n ≡ numberOf (signsOf (st .sign) (bitsOf 6 w))) where
-    pub sent-octets : (Ms cs os : List ℕ) → Ms ≡ sizes r → cs ≡ labels Ms (w / 64) → os ≡ listFrom (octetIn r l cs n) 0 6 → os ≡ sendFrame r l st ds
-    unfolding sendFrame lineBits
-    sent-octets = octets-are r (scramble (st .history) ds) long w ew (st .sign) n en l
+  same-bits : scramble (st .history) (bitsOf (m .k + 6) word) ≡ ss
+  same-bits = ap (λ (x : Mapping). scramble (st .history) (bitsOf (x .k + 6) word)) (s .mapped)
 
-    pub sent-state : (h : ℕ) (s : Bool) → h ≡ pushAll (st .history) (scramble (st .history) ds) → s ≡ bit n 5 → record { history = h; sign = s } ≡ sendNext st ds
-    unfolding sendNext lineBits
-    sent-state h s eh es =
-        ap₂ (λ (x : ℕ) (y : Bool). record { history = x; sign = y }) eh (es ∙ sign-is r (scramble (st .history) ds) long w ew (st .sign) n en 5 (omega arith))
+  line : w ≡ numberOf ss
+  line = ew ∙ ap numberOf same-bits
+
+  long : length ss ≡ D r
+  long = length-scramble (st .history) ds ∙ length-bitsOf (D r) word
+
+  below : w / 64 < product (sizes r)
+  below = le-trans (number-lt r ss long w line) (s .holds)
+
+  pub sent-below : w / 64 < product (m .sizes)
+  sent-below = rw (s .mapped) below
+
+  module _ (cs : List ℕ) (ec : cs ≡ labels (m .sizes) (w / 64)) where
+    labels-from : cs ≡ labels (sizes r) (w / 64)
+    labels-from = ec ∙ ap (λ (x : Mapping). labels (x .sizes) (w / 64)) (s .mapped)
+
+    -- labels are below the sizes, and so below 128
+    pub sent-small : (i : ℕ) → i < 6 → getD cs i 0 < 128
+    unfolding sizes listFrom
+    sent-small i h =
+        let b : getD (labels (sizes r) (w / 64)) i 0 < getD (sizes r) i 0 =
+        within-at (sizes r) (labels (sizes r) (w / 64)) (labels-within (size r 0) (listFrom (size r) 1 5) (w / 64) below) i (omega (arith, length-sizes r)) in
+        rw labels-from (omega (arith, size-le r (mappingOf r) refl i))
+
+    module _ (n : ℕ) (en : n ≡ numberOf (signsOf (st .sign) (bitsOf 6 w))) where
+      pub sent-octets : (os : List ℕ) → os ≡ listFrom (octetIn l ps cs n) 0 6 → os ≡ sendFrame r l st ds
+      unfolding sendFrame lineBits
+      sent-octets os eo = octets-are r ss long w line (st .sign) n en l ps cs os (s .points) labels-from sent-small eo
+
+      pub sent-state : (h : ℕ) (t : Bool) → h ≡ pushAll (st .history) (scramble (st .history) (bitsOf (m .k + 6) word)) → t ≡ bit n 5
+          → record { history = h; sign = t } ≡ sendNext st ds
+      unfolding sendNext lineBits
+      sent-state h t eh et =
+          ap₂ (λ (x : ℕ) (y : Bool). record { history = x; sign = y }) (eh ∙ ap (pushAll (st .history)) same-bits)
+          (et ∙ sign-is r ss long w line (st .sign) n en 5 (omega arith))

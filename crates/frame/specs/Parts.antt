@@ -1,23 +1,47 @@
 -- The parts of a frame as code has them, and what a frame asks of its caller. Assumes nothing.
 use mathlib.Core.Path.{_≡_}
-use Prim.Native.Nat.{ℕ, _≤_, _<_, _^_}
-use mathlib.Core.List.{List}
+use Prim.Native.Nat.{ℕ, _+_, _%_, _≤_, _<_, _^_}
+use mathlib.Core.List.{List, []}
+use lib.Dec.{eqb}
 use lib.ListN.{getD}
+use Rattle.standard.specs.First.{Test, test}
 use Rattle.standard.specs.Bits.{bit}
-use Rattle.standard.specs.Constellation.{point, sizes}
+use Rattle.standard.specs.Record.{K}
+use Rattle.standard.specs.Constellation.{sizes}
+use Rattle.standard.specs.Modulus.{product}
 use Rattle.standard.specs.Octets.{octet}
+use Rattle.standard.specs.Frame.{ucodeAt}
 use Rattle.standard.specs.declared.Law.{Law}
 use Rattle.standard.specs.declared.LineState.{LineState}
 use Rattle.standard.specs.declared.Record.{Record}
-use Rattle.constellation.specs.Mask.{Indexed}
+use Rattle.mapping.specs.declared.Mapping.{Mapping}
+use Rattle.mapping.specs.Tables.{mappingOf, pointTables, labelTables}
 
--- a frame of the record r can be sent or received in the state st, where Ms are the record's sizes
-pub record Ready (r : Record) (Ms : List ℕ) (st : LineState) : Type 0 where
-  pub indexed : Indexed r
+-- The functions of a frame have no record. Their contracts ask that K, sizes and table are drawn up of some record, and speak of each such record.
+
+-- a frame of the record r can be sent in the state st: m and ps are drawn up of r
+pub record Sendable (r : Record) (m : Mapping) (ps : List (List ℕ)) (st : LineState) : Type 0 where
   pub rate : r .drn ≤ 28
-  pub sized : Ms ≡ sizes r
+  pub mapped : m ≡ mappingOf r
+  pub points : ps ≡ pointTables r
+  pub holds : 2 ^ K r ≤ product (sizes r)
   pub history : st .history < 2 ^ 23
 
--- the octet in interval i, of labels and of signs as bits of a number
-unfoldable pub octetIn : Record → Law → List ℕ → ℕ → ℕ → ℕ
-octetIn r l labels signs i = octet l (bit signs i) (point r i (getD labels i 0))
+-- a frame of the record r can be received in the state st: m and ls are drawn up of r
+pub record Receivable (r : Record) (m : Mapping) (ls : List (List ℕ)) (st : LineState) : Type 0 where
+  pub rate : r .drn ≤ 28
+  pub mapped : m ≡ mappingOf r
+  pub labels : ls ≡ labelTables r
+  pub history : st .history < 2 ^ 23
+
+-- the octet in interval i, of points by label, of labels and of signs as bits of a number
+unfoldable pub octetIn : Law → List (List ℕ) → List ℕ → ℕ → ℕ → ℕ
+octetIn l ps labels signs i = octet l (bit signs i) (getD (getD ps i []) (getD labels i 0) 0 % 128)
+
+-- what the table by Ucode has for the octet in interval i
+unfoldable pub labelIn : Law → List (List ℕ) → List ℕ → ℕ → ℕ
+labelIn l ls os i = getD (getD ls i []) (ucodeAt l os i) 0
+
+-- interval i has no label
+unfoldable pub noneTest : List ℕ → ℕ → Test
+noneTest found i = test (i + 1) (eqb (getD found i 0) 255)

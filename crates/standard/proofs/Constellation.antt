@@ -1,8 +1,9 @@
 -- Laws of sizes, labels and points. Assumes nothing.
 use mathlib.Core.Path.{_≡_, refl, sym, ap, ap₂, _∙_}
 use mathlib.Core.Logic.{_⊎_, inl, inr}
-use Prim.Native.Nat.{ℕ, zero, suc, _+_, _≤_, _<_, zero-le}
+use Prim.Native.Nat.{ℕ, zero, suc, _+_, _-_, _≤_, _<_, zero-le}
 use mathlib.Core.Bool.{Bool, true, false, cond}
+use native.Mathlib.Decide.{decLt}
 use native.Mathlib.Nat.{not-suc-le-zero, eq-or-lt-of-le, le-of-suc-le-suc, add-zero, add-suc}
 use native.Mathlib.Omega.{arith}
 use borrow.Author.Tests.{eq-eqb, ne-eqb}
@@ -74,3 +75,64 @@ label-above m (suc n) u h = go (label-above m n u) (eq-or-lt-of-le (le-of-suc-le
 pub label-below : (m : ℕ → Bool) (n u : ℕ) → u < n → m u ≡ true → labelOf m n u < sizeOf m n
 unfolding sizeOf
 label-below m n u h e = omega (arith, label-above m n u h, ap weight e)
+
+-- ---- the points in order
+
+point-up : (m : ℕ → Bool) (n c : ℕ) (b : Bool) → m n ≡ b → pointOf m (suc n) (weight b + c) ≡ pointOf m n c
+unfolding pointOf
+point-up m n c true e = let s : 1 + c ≡ suc c = omega arith in rw (s, e)
+point-up m n zero false e = rw e
+point-up m n (suc c) false e = let s : 0 + suc c ≡ suc c = omega arith in rw (s, e)
+
+-- the point that a label of the mask names is the one that has it
+pub point-label : (m : ℕ → Bool) (n u : ℕ) → u < n → m u ≡ true → pointOf m n (labelOf m n u) ≡ u
+unfolding labelOf pointOf
+point-label m zero u h e = absurd (not-suc-le-zero h)
+point-label m (suc n) u h e = go (point-label m n u) (eq-or-lt-of-le (le-of-suc-le-suc h))
+  where
+    go : (u < n → m u ≡ true → pointOf m n (labelOf m n u) ≡ u) → (u ≡ n) ⊎ (u < n) → pointOf m (suc n) (labelOf m (suc n) u) ≡ u
+    go ih (inl q) = let t : m n ≡ true = rw q at e in rw (q, eq-eqb n n refl, t)
+    go ih (inr l) = ap (pointOf m (suc n)) (label-up m n u l) ∙ point-up m n (labelOf m n u) (m n) refl ∙ ih l e
+
+-- no label from the size on names a point
+pub point-past : (m : ℕ → Bool) (n c : ℕ) → sizeOf m n ≤ c → pointOf m n c ≡ 0
+unfolding pointOf sizeOf
+point-past m zero c h = refl
+point-past m (suc n) c h =
+    let s : c ≡ weight (m n) + (c - weight (m n)) = omega arith in
+    ap (pointOf m (suc n)) s ∙ point-up m n (c - weight (m n)) (m n) refl ∙ point-past m n (c - weight (m n)) (omega arith)
+
+-- a point is a Ucode
+pub point-lt : (m : ℕ → Bool) (n c : ℕ) → 0 < n → pointOf m n c < n
+point-lt m n c h = go (decLt c (sizeOf m n))
+  where
+    go : Dec (c < sizeOf m n) → pointOf m n c < n
+    go (yes l) = names m n c l .below
+    go (no l) = rw (point-past m n c (omega arith)) h
+
+-- ---- a stretch of Ucodes from v on
+
+module _ (m : ℕ → Bool) (v n : ℕ) (h : v ≤ n) where
+  grows : (k : ℕ) → v ≤ k → sizeOf m v ≤ sizeOf m k
+  grows k l = let e : v + (k - v) ≡ k = omega arith in omega (arith, sizeOf-split m v (k - v), ap (sizeOf m) e)
+
+  -- none of them is in the mask: the size does not grow over it
+  pub stretch-none : ((u : ℕ) → v ≤ u → u < n → m u ≡ false) → sizeOf m n ≡ sizeOf m v
+  unfolding sizeOf
+  stretch-none f =
+      let e : v + (n - v) ≡ n = omega arith in
+      let z : sizeOf (λ u. m (v + u)) (n - v) ≡ 0 = sizeOf-ext (λ u. m (v + u)) (λ u. false) (n - v) (λ u l. f (v + u) (omega arith) (omega arith)) ∙ nothing (n - v) in
+      omega (arith, sizeOf-split m v (n - v), ap (sizeOf m) e)
+    where
+      nothing : (k : ℕ) → sizeOf (λ u. false) k ≡ 0
+      nothing zero = refl
+      nothing (suc k) = omega (arith, nothing k)
+
+  -- and the other way round
+  pub none-stretch : sizeOf m n ≡ sizeOf m v → (u : ℕ) → v ≤ u → u < n → m u ≡ false
+  unfolding sizeOf
+  none-stretch e u a l = go (m u) refl
+    where
+      go : (b : Bool) → m u ≡ b → b ≡ false
+      go false w = refl
+      go true w = absurd (omega (arith, label-above m n u l, ap weight w, grows u a))

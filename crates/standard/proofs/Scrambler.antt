@@ -33,11 +33,6 @@ unfolding scramble pushAll
 scramble-append h [] b = refl
 scramble-append h (d ∷ ds) b = ap (λ (r : List Bool). (d ⊕ taps h) ∷ r) (scramble-append (push h (d ⊕ taps h)) ds b)
 
-pub descramble-append : (h : ℕ) (a b : List Bool) → descramble h (a ++ b) ≡ descramble h a ++ descramble (pushAll h a) b
-unfolding descramble pushAll
-descramble-append h [] b = refl
-descramble-append h (s ∷ ss) b = ap (λ (r : List Bool). (s ⊕ taps h) ∷ r) (descramble-append (push h s) ss b)
-
 pub pushAll-append : (h : ℕ) (a b : List Bool) → pushAll h (a ++ b) ≡ pushAll (pushAll h a) b
 unfolding pushAll
 pushAll-append h [] b = refl

@@ -73,9 +73,6 @@ coded-next F p snoc w i b t eb et =
     ∙ snoc (bitsOf i w) (bit w i)
     ∙ ap (λ (x : Bool). F (bitsOf i w) ++ (x ∷ [])) (sym (xor-bits b t ∙ ap₂ _⊕_ eb et))
 
-pub bits-next : (w i : ℕ) (b : Bool) → b ≡ bit w i → bitsOf (i + 1) w ≡ bitsOf i w ++ (b ∷ [])
-bits-next w i b e = ap (λ (n : ℕ). bitsOf n w) (add-one i) ∙ bitsOf-snoc i w ∙ ap (λ (x : Bool). bitsOf i w ++ (x ∷ [])) (sym e)
-
 pub number-append : (a b : List Bool) → numberOf (a ++ b) ≡ numberOf a + 2 ^ length a * numberOf b
 unfolding numberOf
 number-append [] b = omega arith

@@ -1,41 +1,53 @@
 -- After n turns the first n frames are sent. Assumes nothing.
-use mathlib.Core.Path.{_≡_, ap, _∙_}
-use Prim.Native.Nat.{ℕ, _-_, _*_, _≤_}
+use mathlib.Core.Path.{refl, ap, _∙_}
+use Prim.Native.Nat.{ℕ, _+_, _-_, _*_, _≤_, _<_}
 use native.Mathlib.Omega.{arith}
+use lib.ListN.{length}
 use Rattle.standard.specs.Bits.{bitAt, bitsIn, field}
-use Rattle.standard.specs.Record.{D}
-use Rattle.standard.specs.Constellation.{sizes as sizesOf}
 use Rattle.standard.specs.Frame.{dataBits}
-use Rattle.codec.specs.Loops.{Sending}
-use Rattle.codec.proofs.Loops.{send-start, send-more, send-all, few-bits, six-long}
+use Rattle.standard.specs.declared.Record.{Record}
+use Rattle.mapping.specs.Tables.{pointTables}
+use Rattle.codec.specs.Loops.{Drawn, Sending}
+use Rattle.codec.proofs.Loops.{send-start, sendable, send-more, send-all, few-bits, six-long}
 use Rattle.codec.proofs.send_frames.Statement.{statement}
 use Rattle.codec.proofs.send_frames.Tie as tie
 
 abbrev Inv-loop : tie.InvT-loop
-Inv-loop r law frames bytes octets₀ sizes width left₀ n₀ octets left n =
-    Sending r law frames left₀ (bitsIn (dataBits r frames) bytes) octets₀ n left octets × (width ≡ D r) × (sizes ≡ sizesOf r)
+Inv-loop law frames bytes octets₀ points mapping width left₀ n₀ octets left n =
+    (r : Record) → Drawn pointTables r left₀ frames width mapping points → Sending r law frames left₀ (bitsIn (dataBits r frames) bytes) octets₀ n left octets
 
 abbrev μ-loop : tie.MeasureT-loop
-μ-loop r law frames bytes octets₀ sizes width left₀ n₀ octets left n = frames - n
+μ-loop law frames bytes octets₀ points mapping width left₀ n₀ octets left n = frames - n
 
-sizes-of-requires : tie.Need-sizes-of-requires Inv-loop μ-loop
-sizes-of-requires c κs = c .before .before .pre .0 .index
+draw-up-requires : tie.Need-draw-up-requires Inv-loop μ-loop
+draw-up-requires c κs = (c .before .before .before .before .pre .0 .index, refl, refl)
 
 frame-width-requires : tie.Need-frame-width-requires Inv-loop μ-loop
 frame-width-requires c κs = tt
 
 loop-holds : tie.Need-loop-holds Inv-loop μ-loop
-loop-holds c =
-    let b = c .before .before .before .before in
-    (send-start (b .args .r) (b .args .law) (b .args .frames) (b .args .state) (b .args .bytes .now) (b .args .octets .now) (b .pre .0 .history), c .frame-width .ensures, c .before .sizes-of .ensures)
+loop-holds c r d =
+    let a = c .before .before .before .before .before .before .args in
+    send-start r (a .law) (a .frames) (a .state) (a .bytes .now) (a .octets .now) (d .allowed .history)
 
-few : (c : tie.In-loop Inv-loop μ-loop) → c .before .loop .n ≤ 1024
-few c = let b = c .before .before .before .before .before .before in omega (arith, b .pre .0 .few)
+-- what the call draws up of its record
+drawn : (c : tie.After-frame-width Inv-loop μ-loop)
+    → Drawn pointTables (c .before .before .before .before .before .before .args .r) (c .before .before .before .before .before .before .args .state)
+    (c .before .before .before .before .before .before .args .frames) (c .frame-width .result) (c .before .draw-up .result) (c .before .draw-up .last .1 .0)
+drawn c =
+    let e = c .before .draw-up .ensures in
+    record { allowed = c .before .before .before .before .before .before .pre .0; wide = c .frame-width .ensures; mapped = e .0; tabled = e .1 }
 
 bits-in : (c : tie.In-loop Inv-loop μ-loop) → (c .before .before .frame-width .result ≤ 48) × (c .before .loop .n * c .before .before .frame-width .result ≤ 49152)
 bits-in c =
-    let b = c .before .before .before .before .before .before in
+    let b = c .before .before .before .before .before .before .before .before in
     few-bits (b .args .r) (c .before .loop .n) (b .args .frames) (c .before .before .frame-width .result) (omega arith) (b .pre .0 .few) (c .before .before .frame-width .ensures) (b .pre .0 .rate)
+
+-- the turn is one of 1,024 at most, and the octets are as many as were lent
+turn : (c : tie.In-loop Inv-loop μ-loop) → (c .before .loop .n < 1024) × (6 * c .before .loop .n + 6 ≤ length (c .before .loop .octets))
+turn c =
+    let b = c .before .before .before .before .before .before .before .before in
+    (omega (arith, b .pre .0 .few), omega (arith, c .before .loop .inv _ (drawn (c .before .before)) .long))
 
 mul-field-at : tie.Need-mul-field-at Inv-loop μ-loop
 mul-field-at c = omega (arith, bits-in c .1)
@@ -44,10 +56,10 @@ field-at-requires : tie.Need-field-at-requires Inv-loop μ-loop
 field-at-requires c κs = (omega (arith, bits-in c .0), omega (arith, bits-in c .1))
 
 mul-at : tie.Need-mul-at Inv-loop μ-loop
-mul-at c = omega (arith, few (c .before))
+mul-at c = omega (arith, turn (c .before) .0)
 
 add-end : tie.Need-add-end Inv-loop μ-loop
-add-end c = omega (arith, few (c .before))
+add-end c = omega (arith, turn (c .before) .0)
 
 sub-send-frame : tie.Need-sub-send-frame Inv-loop μ-loop
 sub-send-frame c = omega arith
@@ -56,16 +68,15 @@ part-send-frame-start : tie.Need-part-send-frame-start Inv-loop μ-loop
 part-send-frame-start c = omega arith
 
 part-send-frame-end : tie.Need-part-send-frame-end Inv-loop μ-loop
-part-send-frame-end c = omega arith
+part-send-frame-end c = omega (arith, turn (c .before .before) .1)
 
 send-frame-requires : tie.Need-send-frame-requires Inv-loop μ-loop
 send-frame-requires c κs =
-    let b = c .before .before .before .before .before .before .before .before in
-    let l = c .before .before .before .loop in
-    let sized = c .before .before .before .before .before .sizes-of .ensures in (
-      record { indexed = b .pre .0 .index; rate = b .pre .0 .rate; sized = sized; history = l .inv .0 .low },
-      rw sized (b .pre .0 .holds (omega arith)),
-      six-long (l .octets) (l .n) (b .args .frames) (omega arith) (omega arith),
+    let b = c .before .before .before .before .before .before .before .before .before .before .before in
+    let l = c .before .before .before .before .loop in
+    let d = drawn (c .before .before .before .before .before) in (
+      (b .args .r, sendable (b .args .r) (b .args .law) (b .args .frames) (b .args .state) (b .args .bytes .now) (b .args .octets .now) (l .n) _ _ _ (l .left) (l .octets) d (l .inv _ d) (omega arith)),
+      six-long (l .octets) (l .n) (l .n + 1) (omega arith) (omega (arith, turn (c .before .before .before) .1)),
     )
 
 add-n : tie.Need-add-n Inv-loop μ-loop
@@ -75,25 +86,25 @@ loop-less : tie.Need-loop-less Inv-loop μ-loop
 loop-less c = omega arith
 
 loop-again : tie.Need-loop-again Inv-loop μ-loop
-loop-again c =
-    let b = c .before .before .before .before .before .before .before .before .before .before .before in
-    let l = c .before .before .before .before .before .before .loop in
+loop-again c r d =
+    let b = c .before .before .before .before .before .before .before .before .before .before .before .before .before .before in
+    let a = b .args in
+    let l = c .before .before .before .before .before .before .before .loop in
     let call = c .before .before .send-frame in
-    let word = c .before .before .before .before .field-at in (
-      send-more (b .args .r) (b .args .law) (b .args .frames) (b .args .state) (b .args .bytes .now) (b .args .octets .now) (l .n) _ (l .left) (call .result) (l .octets) _ (l .inv .0)
-          (omega arith) (omega arith) (word .ensures ∙ ap (λ (w : ℕ). field (bitAt (b .args .bytes .now)) (l .n * w) w) (l .inv .1)) (call .ensures .1) (call .ensures .0),
-      l .inv .1,
-      l .inv .2,
-    )
+    let word = c .before .before .before .before .before .field-at in
+    let so-far = l .inv r d in
+    let sent = call .ensures r (sendable r (a .law) (a .frames) (a .state) (a .bytes .now) (a .octets .now) (l .n) _ _ _ (l .left) (l .octets) d so-far (omega arith)) in
+    send-more r (a .law) (a .frames) (a .state) (a .bytes .now) (a .octets .now) (l .n) _ (l .left) (call .result) (l .octets) _ so-far
+    (omega arith) (b .pre .1) (word .ensures ∙ ap (λ (w : ℕ). field (bitAt (a .bytes .now)) (l .n * w) w) (d .wide)) (sent .1) (sent .0)
 
 same-length : tie.Need-same-length Inv-loop μ-loop
-same-length c = c .before .loop .inv .0 .long
+same-length c = c .before .loop .inv _ (drawn (c .before .before)) .long
 
 returns : tie.Need-returns Inv-loop μ-loop
 returns c =
-    let b = c .before .before .before .before .before .before in
+    let a = c .before .before .before .before .before .before .before .before .args in
     let l = c .before .loop in
-    send-all (b .args .r) (b .args .law) (b .args .frames) (b .args .state) (b .args .bytes .now) (b .args .octets .now) (l .n) (l .left) (l .octets) (l .inv .0) (omega arith)
+    send-all (a .r) (a .law) (a .frames) (a .state) (a .bytes .now) (a .octets .now) (l .n) (l .left) (l .octets) (l .inv _ (drawn (c .before .before))) (omega arith)
 
 pub send-frames-spec : {M : Type 1} → statement M
 send-frames-spec =
@@ -101,7 +112,7 @@ send-frames-spec =
     (tie.spec
     Inv-loop
     μ-loop
-    sizes-of-requires
+    draw-up-requires
     frame-width-requires
     loop-holds
     mul-field-at

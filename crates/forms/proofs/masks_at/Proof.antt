@@ -1,6 +1,7 @@
 -- Turn h fills in half h. Assumes nothing.
-use mathlib.Core.Path.{_≡_, refl}
-use Prim.Native.Nat.{_≤_, _-_}
+use mathlib.Core.Path.{_≡_, refl, ap, _∙_}
+use Prim.Native.Nat.{ℕ, _+_, _*_, _≤_, _-_}
+use Rattle.standard.specs.Bits.{bitAt, field}
 use Rattle.standard.proofs.Filling.{Filled, filled-none, filled-more, filled-all}
 use Rattle.forms.specs.RecordBytes.{halfAt}
 use native.Mathlib.Omega.{arith}
@@ -16,14 +17,14 @@ abbrev μ-loop : tie.MeasureT-loop
 loop-holds : tie.Need-loop-holds Inv-loop μ-loop
 loop-holds c = (omega arith, filled-none _ 12 _ refl)
 
-mul-field-at : tie.Need-mul-field-at Inv-loop μ-loop
-mul-field-at c = omega arith
+mul-word-at : tie.Need-mul-word-at Inv-loop μ-loop
+mul-word-at c = omega arith
 
-add-field-at : tie.Need-add-field-at Inv-loop μ-loop
-add-field-at c = omega arith
+add-word-at : tie.Need-add-word-at Inv-loop μ-loop
+add-word-at c = omega arith
 
-field-at-requires : tie.Need-field-at-requires Inv-loop μ-loop
-field-at-requires c κs = (omega arith, omega arith)
+word-at-requires : tie.Need-word-at-requires Inv-loop μ-loop
+word-at-requires c κs = omega arith
 
 mul-mask : tie.Need-mul-mask Inv-loop μ-loop
 mul-mask c = omega arith
@@ -38,7 +39,11 @@ loop-less : tie.Need-loop-less Inv-loop μ-loop
 loop-less c = omega arith
 
 loop-again : tie.Need-loop-again Inv-loop μ-loop
-loop-again c = (omega arith, filled-more _ (c .before .before .loop .inv .1) (omega arith) (c .field-at .ensures))
+loop-again c =
+    let l = c .before .before .loop in
+    let s = c .before .before .before .before .args .bytes .now in
+    let e : 8 * (9 + 8 * l .h) ≡ 72 + 64 * l .h = omega arith in
+    (omega arith, filled-more _ (l .inv .1) (omega arith) (c .word-at .ensures ∙ ap (λ (p : ℕ). field (bitAt s) p 64) e))
 
 returns : tie.Need-returns Inv-loop μ-loop
 returns c = let e : c .before .loop .h ≡ 12 = omega arith in filled-all (rw e at (c .before .loop .inv .1))
@@ -50,9 +55,9 @@ masks-at-spec =
     Inv-loop
     μ-loop
     loop-holds
-    mul-field-at
-    add-field-at
-    field-at-requires
+    mul-word-at
+    add-word-at
+    word-at-requires
     mul-mask
     array-write-mask
     add-h

@@ -1,23 +1,19 @@
 -- The tests are made in the order of the marks, and a frame that none of them marks gives its bits on the line. Assumes nothing.
-use mathlib.Core.Path.{_≡_, sym, ap, _∙_}
-use Prim.Native.Nat.{_<_, _≤_, _^_}
+use mathlib.Core.Path.{sym, ap, _∙_}
+use Prim.Native.Nat.{_<_}
 use mathlib.Core.Bool.{Bool}
 use mathlib.Core.List.{List}
 use native.Mathlib.Omega.{arith}
 use Rattle.standard.specs.Bits.{numberOf}
-use Rattle.standard.specs.Record.{K}
 use Rattle.standard.specs.Scrambler.{pushAll, descramble}
-use Rattle.standard.specs.Frame.{mark, receivedNumber}
-use Rattle.standard.proofs.Words.{one-shifted}
-use Rattle.frame.proofs.Receiving.{mark-outside, mark-seventh, mark-good, marked-next, marked-number, heard-bits, heard-data, heard-next}
+use Rattle.standard.specs.Frame.{mark}
+use Rattle.mapping.proofs.Tables.{width-le, size-le}
+use Rattle.frame.proofs.Receiving.{outside-is, number-is, limit-is, mark-outside, mark-seventh, mark-good, marked-next, marked-number, heard-bits, heard-data, heard-next}
 use Rattle.frame.proofs.receive_frame.Statement.{statement}
 use Rattle.frame.proofs.receive_frame.Tie as tie
 
-cast-k : tie.Need-cast-k
-cast-k c = omega arith
-
-add-k : tie.Need-add-k
-add-k c = omega arith
+add-width : tie.Need-add-width
+add-width c = let s = c .before .pre .0 .1 in omega (arith, width-le _ _ (s .mapped) (s .rate))
 
 shared-slice-read-sign-of : tie.Need-shared-slice-read-sign-of
 shared-slice-read-sign-of c = omega arith
@@ -25,81 +21,84 @@ shared-slice-read-sign-of c = omega arith
 sign-of-requires : tie.Need-sign-of-requires
 sign-of-requires c κs = tt
 
+labels-in-requires : tie.Need-labels-in-requires
+labels-in-requires c κs = omega arith
+
 mark-outside-requires : tie.Need-mark-outside-requires
-mark-outside-requires c κs = (c .before .before .before .before .pre .0 .indexed, c .before .before .before .before .pre .1)
+mark-outside-requires c κs = tt
 
 marked-frame-requires : tie.Need-marked-frame-requires
-marked-frame-requires c κs = omega arith
+marked-frame-requires c κs = let s = c .before .before .before .before .before .before .before .pre .0 .1 in (width-le _ _ (s .mapped) (s .rate), s .history)
 
 returns : tie.Need-returns
-returns c =
-    let a = c .before .before .before .before .before .before .before .args in
+returns c r s =
+    let a = c .before .before .before .before .before .before .before .before .args in
+    let os = a .octets .now in
     let out = c .before .before .mark-outside in
     let x = c .marked-frame .ensures in
     let h : 0 < out .result = omega arith in
-    let e : out .result ≡ mark (a .r) (a .law) (a .octets .now) = mark-outside (a .r) (a .law) (a .octets .now) (out .result) (out .ensures) h in
-    let p : 0 < mark (a .r) (a .law) (a .octets .now) = rw e at h in (
+    let e = mark-outside r (a .law) os _ (outside-is r (a .law) os _ (s .labels) _ (c .before .before .before .labels-in .ensures) _ (out .ensures)) h in
+    let p : 0 < mark r (a .law) os = rw e at h in (
       x .0 ∙ e,
-      marked-next (a .r) (a .law) (a .octets .now) (a .state) p _ (x .1) (x .2 ∙ c .before .before .before .sign-of .ensures),
-      x .3 ∙ marked-number (a .r) (a .law) (a .octets .now) (a .state) p,
+      marked-next r (a .law) os (a .state) p _ (s .mapped) _ (x .1) (x .2 ∙ c .before .before .before .before .sign-of .ensures),
+      x .3 ∙ marked-number r (a .law) os (a .state) p,
     )
 
 number-of-requires : tie.Need-number-of-requires
-number-of-requires c κs = let b = c .before .before .before .before .before .before in (b .pre .0 .indexed, b .pre .0 .sized, b .pre .1)
+number-of-requires c κs = let s = c .before .before .before .before .before .before .before .pre .0 .1 in size-le _ _ (s .mapped)
 
 shl-if2 : tie.Need-shl-if2
-shl-if2 c = omega arith
+shl-if2 c = let s = c .before .before .before .before .before .before .before .before .pre .0 .1 in omega (arith, width-le _ _ (s .mapped) (s .rate))
 
 marked-frame-requires-2 : tie.Need-marked-frame-requires-2
-marked-frame-requires-2 c κs = omega arith
+marked-frame-requires-2 c κs = let s = c .before .before .before .before .before .before .before .before .before .pre .0 .1 in (width-le _ _ (s .mapped) (s .rate), s .history)
 
 returns-2 : tie.Need-returns-2
-returns-2 c =
-    let a = c .before .before .before .before .before .before .before .before .before .args in
+returns-2 c r s =
+    let a = c .before .before .before .before .before .before .before .before .before .before .args in
+    let os = a .octets .now in
+    let found = c .before .before .before .before .before .labels-in .ensures in
     let x = c .marked-frame2 .ensures in
-    let large : 2 ^ K (a .r) ≤ receivedNumber (a .r) (a .law) (a .octets .now) =
-    rw (one-shifted (K (a .r)) (omega arith), c .before .before .number-of .ensures) at (c .before .if2 .taken) in
-    let e : mark (a .r) (a .law) (a .octets .now) ≡ 7 =
-    mark-seventh (a .r) (a .law) (a .octets .now) (sym (c .before .before .before .before .mark-outside .ensures) ∙ c .before .before .before .if1 .left) large in
-    let p : 0 < mark (a .r) (a .law) (a .octets .now) = omega arith in (
+    let inside = sym (outside-is r (a .law) os _ (s .labels) _ found _ (c .before .before .before .before .mark-outside .ensures)) ∙ c .before .before .before .if1 .left in
+    let number = c .before .before .number-of .ensures ∙ number-is r (a .law) os _ (s .labels) _ found inside _ (s .mapped) in
+    let large = rw (limit-is r (a .law) os _ (s .mapped) (s .rate), number) at (c .before .if2 .taken) in
+    let e = mark-seventh r (a .law) os inside large in
+    let p : 0 < mark r (a .law) os = omega arith in (
       x .0 ∙ sym e,
-      marked-next (a .r) (a .law) (a .octets .now) (a .state) p _ (x .1) (x .2 ∙ c .before .before .before .before .before .sign-of .ensures),
-      x .3 ∙ marked-number (a .r) (a .law) (a .octets .now) (a .state) p,
+      marked-next r (a .law) os (a .state) p _ (s .mapped) _ (x .1) (x .2 ∙ c .before .before .before .before .before .before .sign-of .ensures),
+      x .3 ∙ marked-number r (a .law) os (a .state) p,
     )
 
 sign-bits-of-requires : tie.Need-sign-bits-of-requires
 sign-bits-of-requires c κs = omega arith
 
-add-descramble-bits : tie.Need-add-descramble-bits
-add-descramble-bits c = omega arith
-
 descramble-bits-requires : tie.Need-descramble-bits-requires
-descramble-bits-requires c κs = omega arith
+descramble-bits-requires c κs = let s = c .before .before .before .before .before .before .before .before .before .before .pre .0 .1 in (s .history, width-le _ _ (s .mapped) (s .rate))
 
 returns-3 : tie.Need-returns-3
-returns-3 c =
-    let b = c .before .before .before .before .before .before .before .before .before .before in
-    let a = b .args in
-    let n = c .before .before .before .number-of in
+returns-3 c r s =
+    let a = c .before .before .before .before .before .before .before .before .before .before .before .args in
+    let os = a .octets .now in
+    let found = c .before .before .before .before .before .before .labels-in .ensures in
     let x = c .descramble-bits .ensures in
-    let small : receivedNumber (a .r) (a .law) (a .octets .now) < 2 ^ K (a .r) =
-    rw (n .ensures) at (rw (one-shifted (K (a .r)) (omega arith)) at (c .before .before .if2 .left)) in
-    let e = mark-good (a .r) (a .law) (a .octets .now) (sym (c .before .before .before .before .before .mark-outside .ensures) ∙ c .before .before .before .before .if1 .left) small in
-    let bits = heard-bits (a .r) (a .law) (a .octets .now) (a .state) e small _ _ (c .before .sign-bits-of .ensures) (n .ensures) (b .pre .0 .rate) in (
+    let inside = sym (outside-is r (a .law) os _ (s .labels) _ found _ (c .before .before .before .before .before .mark-outside .ensures)) ∙ c .before .before .before .before .if1 .left in
+    let number = c .before .before .before .number-of .ensures ∙ number-is r (a .law) os _ (s .labels) _ found inside _ (s .mapped) in
+    let small = rw (limit-is r (a .law) os _ (s .mapped) (s .rate), number) at (c .before .before .if2 .left) in
+    let e = mark-good r (a .law) os inside small in
+    let bits = heard-bits r (a .law) os (a .state) e small _ (s .mapped) _ _ (c .before .sign-bits-of .ensures) number (s .rate) in (
       sym e,
-      heard-next (a .r) (a .law) (a .octets .now) (a .state) e small _ _ (x .1 ∙ ap (pushAll (a .state .history)) bits) (c .before .before .before .before .before .before .sign-of .ensures),
-      x .0 ∙ ap (λ (bs : List Bool). numberOf (descramble (a .state .history) bs)) bits
-          ∙ ap numberOf (heard-data (a .r) (a .law) (a .octets .now) (a .state) e small),
+      heard-next r (a .law) os (a .state) e small _ _ (x .1 ∙ ap (pushAll (a .state .history)) bits) (c .before .before .before .before .before .before .before .sign-of .ensures),
+      x .0 ∙ ap (λ (bs : List Bool). numberOf (descramble (a .state .history) bs)) bits ∙ ap numberOf (heard-data r (a .law) os (a .state) e small),
     )
 
 pub receive-frame-spec : {M : Type 1} → statement M
 receive-frame-spec =
     tie.close
     (tie.spec
-    cast-k
-    add-k
+    add-width
     shared-slice-read-sign-of
     sign-of-requires
+    labels-in-requires
     mark-outside-requires
     marked-frame-requires
     returns
@@ -108,6 +107,5 @@ receive-frame-spec =
     marked-frame-requires-2
     returns-2
     sign-bits-of-requires
-    add-descramble-bits
     descramble-bits-requires
     returns-3)
