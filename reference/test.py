@@ -453,8 +453,9 @@ def empty_intervals():
 # Wrong codecs
 
 RIGHT = {name: getattr(frames, name)
-         for name in ("points", "send_frame", "receive_frame", "call_faults", "send_faults",
-                      "receive_faults", "outside", "receive")}
+         for name in ("points", "labels", "interval_masks", "get_bits", "add_bits", "send_frame",
+                      "receive_frame", "call_faults", "send_faults", "receive_faults", "outside",
+                      "receive")}
 RIGHT_CP = {name: getattr(cp, name)
             for name in ("covered", "crc", "record_in", "record_faults", "reader_faults",
                          "writer_faults")}
@@ -491,9 +492,89 @@ def points_from_smallest(mask):
     return RIGHT["points"](mask)[::-1]
 
 
-def labels_from_smallest(mask):
-    """Label 0 for the smallest Ucode."""
-    return {ucode: label for label, ucode in enumerate(points_from_smallest(mask))}
+def lower_half_first(mask):
+    """Label 0 for the largest Ucode below 64; those from 64 on follow."""
+    return sorted(RIGHT["points"](mask), key=lambda ucode: ucode // 64)
+
+
+def places_one_too_high(mask):
+    """Each Ucode is one place after its label's; place 0 has Ucode 0."""
+    return (0, *RIGHT["points"](mask))[:-1]
+
+
+def labels_in(order):
+    """The receiver's table for an order of Ucodes."""
+    return lambda mask: {ucode: label for label, ucode in enumerate(order(mask))}
+
+
+def tables_in(sender, receiver):
+    """The changes that give the sender's table one order of Ucodes, the receiver's another."""
+    return {"frames.points": sender, "frames.labels": labels_in(receiver)}
+
+
+def labels_one_too_high(mask):
+    """The labels are counted from 1."""
+    return {ucode: label + 1 for ucode, label in RIGHT["labels"](mask).items()}
+
+
+def none_as_label(mask):
+    """A Ucode outside the mask has label 255."""
+    return dict.fromkeys(range(128), 255) | RIGHT["labels"](mask)
+
+
+def labels_below_64(mask):
+    """The table has 64 places: the Ucodes from 64 on have no label."""
+    return {ucode: label for ucode, label in RIGHT["labels"](mask).items() if ucode < 64}
+
+
+def tables_from(others):
+    """The changes that draw the intervals' tables from other masks; the sizes stay right."""
+    def both(record):
+        return list(zip(RIGHT["interval_masks"](record), others(record)))
+
+    def places(own_and_other):
+        own, other = own_and_other
+        return (*RIGHT["points"](other), *bytes(128))[:own.bit_count()]
+
+    return {"frames.interval_masks": both, "frames.points": places,
+            "frames.labels": lambda masks: labels_in(RIGHT["points"])(masks[1])}
+
+
+def masks_one_late(record):
+    """Each interval has the mask of the one before it, interval 0 its own."""
+    masks = RIGHT["interval_masks"](record)
+    return masks[:1] + masks[:5]
+
+
+def masks_of_neighbours(record):
+    """Where any earlier interval names the same mask, that of the one just before is copied."""
+    masks = []
+    for i, index in enumerate(record.indices):
+        masks.append(masks[-1] if index in record.indices[:i] else mask_of(record, index))
+    return masks
+
+
+def scrambler_by(size):
+    """A scrambler of so many bits a step, whose taps do not see the bits of the step itself."""
+    def scramble(history, data, count):
+        line = 0
+        for n in range(count):
+            before = before if n % size else history
+            bit = data >> n & 1 ^ frames.taps(before << n % size)
+            history = frames.push(history, bit)
+            line |= bit << n
+        return line, history
+    return scramble
+
+
+def read_below_53(octets, first, count):
+    """A frame's bits read from a word of 53 bits; no frame needs more than 54."""
+    return RIGHT["get_bits"](octets, first, min(count, 53 - first % 8))
+
+
+def written_below_53(octets, first, count, bits):
+    """A frame's bits written by a word of 53 bits."""
+    RIGHT["add_bits"](octets, first, count, bits % 2 ** (53 - first % 8))
 
 
 def own_output(history, line, count):
@@ -705,8 +786,23 @@ WRONG_CODECS = {
     "mark of the last stranger": {"frames.outside": lambda *args: RIGHT["outside"](*args)[::-1]},
     "sender's sign reset": {"frames.send_frame": sender_sign_reset},
     "receiver's sign reset": {"frames.receive_frame": receiver_sign_reset},
-    "labels from the smallest": {"frames.points": points_from_smallest,
-                                 "frames.labels": labels_from_smallest},
+    "labels from the smallest": tables_in(points_from_smallest, points_from_smallest),
+    "sender's labels from the smallest": tables_in(points_from_smallest, RIGHT["points"]),
+    "receiver's labels from the smallest": tables_in(RIGHT["points"], points_from_smallest),
+    "labels from the lower half": tables_in(lower_half_first, lower_half_first),
+    "sender's places one too high": tables_in(places_one_too_high, RIGHT["points"]),
+    "receiver's labels one too high": {"frames.labels": labels_one_too_high},
+    "no label taken for 255": {"frames.labels": none_as_label},
+    "labels in 64 places": {"frames.labels": labels_below_64},
+    "tables of interval 0 alone":
+        tables_from(lambda record: RIGHT["interval_masks"](record)[:1] * 6),
+    "tables of mask i for interval i": tables_from(records.masks_of),
+    "tables of the interval before": tables_from(masks_one_late),
+    "tables copied from the neighbour": tables_from(masks_of_neighbours),
+    "scrambler 23 bits a step": {"frames.scramble": scrambler_by(23)},
+    "scrambler 19 bits a step": {"frames.scramble": scrambler_by(19)},
+    "words of 53 bits read": {"frames.get_bits": read_below_53},
+    "words of 53 bits written": {"frames.add_bits": written_below_53},
     "descrambler fed its output": {"frames.descramble": own_output},
     "R tested after a cut": {"frames.too_large": lambda record, number: False},
     "last byte not cleared": {"frames.receive": last_byte_kept},
