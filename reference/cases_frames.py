@@ -8,7 +8,7 @@ from frames import (FRESH, HISTORIES, MOST_FRAMES, State, data_bytes, interval_m
                     ucodes_for)
 from record import EMPTY, EXAMPLE, FULL_MASK, k_of, make, sizes_of
 from refusals import in_order, of_01
-from samples import (Draw, a_record, a_state, faulty_record, hardly_empty,
+from samples import (Draw, a_mask, a_record, a_state, faulty_record, hardly_empty,
                      records_with_empty_intervals, without_a_rate)
 from table1 import A, MU, octet_of
 
@@ -368,11 +368,19 @@ def sparse_faults(draw):
         yield faulty_receive(draw, numbers)
 
 
+# Six masks in one call (A.6)
+
+def six_masks(draw):
+    """Both ends under a record in which each interval names a mask of its own."""
+    record = make(0, 18, 0, [3, 5, 0, 4, 1, 2], [a_mask(draw, 40 + m) for m in range(6)])
+    yield from both_ends(draw, record, 2)
+
+
 def cases():
     """The stored cases in order."""
     draw = Draw(9105)
     found = list(example_calls())
     for group in (marked_frames, number_edges, states, no_frames, faulty_cases, runs, long_calls,
-                  linear_cases, sparse_calls, sparse_faults):
+                  linear_cases, sparse_calls, sparse_faults, six_masks):
         found += group(draw)
     return found

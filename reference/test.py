@@ -554,6 +554,12 @@ def masks_of_neighbours(record):
     return masks
 
 
+def masks_of_five_tables(record):
+    """There is room for five tables; the sixth mask named has those of the fifth."""
+    named = list(dict.fromkeys(record.indices))
+    return [mask_of(record, named[min(named.index(index), 4)]) for index in record.indices]
+
+
 def scrambler_by(size):
     """A scrambler of so many bits a step, whose taps do not see the bits of the step itself."""
     def scramble(history, data, count):
@@ -799,6 +805,7 @@ WRONG_CODECS = {
     "tables of mask i for interval i": tables_from(records.masks_of),
     "tables of the interval before": tables_from(masks_one_late),
     "tables copied from the neighbour": tables_from(masks_of_neighbours),
+    "tables for five masks": tables_from(masks_of_five_tables),
     "scrambler 23 bits a step": {"frames.scramble": scrambler_by(23)},
     "scrambler 19 bits a step": {"frames.scramble": scrambler_by(19)},
     "words of 53 bits read": {"frames.get_bits": read_below_53},
