@@ -5,7 +5,7 @@ use mathlib.Core.Bool.{Bool}
 use mathlib.Core.List.{List, []}
 use native.Mathlib.Nat.{mod-eq-of-lt, le-trans}
 use native.Mathlib.Omega.{arith}
-use lib.ListN.{length, getD, drop, length-drop}
+use lib.ListN.{length, getD, take, drop, length-drop}
 use Rattle.standard.specs.Lists.{listFrom}
 use Rattle.standard.specs.Bits.{bit, nth, numberOf, bitsOf}
 use Rattle.standard.specs.Record.{K, D}
@@ -27,43 +27,12 @@ use Rattle.standard.proofs.Constellation.{point-lt}
 use Rattle.standard.proofs.Frame.{length-sizes}
 use Rattle.standard.proofs.Words.{number-bit, number-take, number-drop}
 use Rattle.mapping.specs.declared.Mapping.{Mapping}
-use Rattle.mapping.specs.Tables.{mappingOf, pointTables}
+use Rattle.mapping.specs.Tables.{mappingOf}
 use Rattle.mapping.proofs.Tables.{size-le, point-in}
 use Rattle.frame.specs.Parts.{Sendable, octetIn}
 
--- a frame of the line bits ss, whose number is w
-module _ (r : Record) (ss : List Bool) (long : length ss ≡ D r) (w : ℕ) (ew : w ≡ numberOf ss) where
-  number-lt : w / 64 < 2 ^ K r
-  number-lt =
-      let e : length (drop 6 ss) ≡ K r = omega (arith, length-drop 6 ss) in
-      let l : numberOf (drop 6 ss) < 2 ^ K r = rw (← e) (numberOf-lt (drop 6 ss)) in
-      rw (ew, number-drop 6 ss) l
-
-  labels-are : labels (sizes r) (w / 64) ≡ frameLabels r ss
-  unfolding frameLabels
-  labels-are = ap (labels (sizes r)) (ap (λ (x : ℕ). x / 64) ew ∙ number-drop 6 ss)
-
-  signs-are : (g : Bool) → signsOf g (bitsOf 6 w) ≡ frameSigns g ss
-  unfolding frameSigns
-  signs-are g = ap (signsOf g) (ap (bitsOf 6) ew ∙ number-take 6 ss (omega arith))
-
-  module _ (g : Bool) (n : ℕ) (en : n ≡ numberOf (signsOf g (bitsOf 6 w))) where
-    pub sign-is : (i : ℕ) → i < 6 → bit n i ≡ nth (frameSigns g ss) i
-    sign-is i h =
-        ap (λ (x : ℕ). bit x i) en ∙ number-bit (signsOf g (bitsOf 6 w)) i (omega (arith, length-signsOf g (bitsOf 6 w), length-bitsOf 6 w))
-        ∙ ap (λ (bs : List Bool). nth bs i) (signs-are g)
-
-    pub octets-are : (l : Law) (ps : List (List ℕ)) (cs os : List ℕ) → ps ≡ pointTables r → cs ≡ labels (sizes r) (w / 64) → ((i : ℕ) → i < 6 → getD cs i 0 < 128)
-        → os ≡ listFrom (octetIn l ps cs n) 0 6 → os ≡ frameOctets r l g ss
-    unfolding octetIn frameOctets
-    octets-are l ps cs os ep ec small eo =
-        eo
-        ∙ listFrom-ext (octetIn l ps cs n) (λ i. octet l (nth (frameSigns g ss) i) (point r i (getD (frameLabels r ss) i 0))) 6
-        (λ i h. ap₂ (octet l) (sign-is i h) (ucode i h ∙ ap (λ (ls : List ℕ). point r i (getD ls i 0)) (ec ∙ labels-are)))
-      where
-        ucode : (i : ℕ) → i < 6 → getD (getD ps i []) (getD cs i 0) 0 % 128 ≡ point r i (getD cs i 0)
-        ucode i h =
-            ap (λ (u : ℕ). u % 128) (point-in r ps i h ep (getD cs i 0) (small i h)) ∙ mod-eq-of-lt (point-lt (member r i) 128 (getD cs i 0) (omega arith))
+number-lt : (k : ℕ) (ss : List Bool) → length ss ≡ k + 6 → numberOf (drop 6 ss) < 2 ^ k
+number-lt k ss e = let six : length (drop 6 ss) ≡ k = omega (arith, length-drop 6 ss) in rw (← six) (numberOf-lt (drop 6 ss))
 
 -- a frame of the D lowest bits of a word, sent from the state st; w is the number of its bits on the line
 module _ (r : Record) (l : Law) (m : Mapping) (ps : List (List ℕ)) (st : LineState) (s : Sendable r m ps st) (word w : ℕ)
@@ -84,7 +53,7 @@ module _ (r : Record) (l : Law) (m : Mapping) (ps : List (List ℕ)) (st : LineS
   long = length-scramble (st .history) ds ∙ length-bitsOf (D r) word
 
   below : w / 64 < product (sizes r)
-  below = le-trans (number-lt r ss long w line) (s .holds)
+  below = le-trans (rw (line, number-drop 6 ss) (number-lt (K r) ss long)) (s .holds)
 
   pub sent-below : w / 64 < product (m .sizes)
   sent-below = rw (s .mapped) below
@@ -97,18 +66,34 @@ module _ (r : Record) (l : Law) (m : Mapping) (ps : List (List ℕ)) (st : LineS
     pub sent-small : (i : ℕ) → i < 6 → getD cs i 0 < 128
     unfolding sizes listFrom
     sent-small i h =
-        let b : getD (labels (sizes r) (w / 64)) i 0 < getD (sizes r) i 0 =
-        within-at (sizes r) (labels (sizes r) (w / 64)) (labels-within (size r 0) (listFrom (size r) 1 5) (w / 64) below) i (omega (arith, length-sizes r)) in
-        rw labels-from (omega (arith, size-le r (mappingOf r) refl i))
+        let within = labels-within (size r 0) (listFrom (size r) 1 5) (w / 64) below in
+        let lt = within-at (sizes r) (labels (sizes r) (w / 64)) within i (omega (arith, length-sizes r)) in
+        rw labels-from (omega (arith, lt, size-le r (mappingOf r) refl i))
 
     module _ (n : ℕ) (en : n ≡ numberOf (signsOf (st .sign) (bitsOf 6 w))) where
+      sign-is : (i : ℕ) → i < 6 → bit n i ≡ nth (frameSigns (st .sign) ss) i
+      unfolding frameSigns
+      sign-is i h =
+          let six : bitsOf 6 w ≡ take 6 ss = ap (bitsOf 6) line ∙ number-take 6 ss (omega (arith, long)) in
+          ap (λ (x : ℕ). bit x i) en ∙ number-bit (signsOf (st .sign) (bitsOf 6 w)) i (omega (arith, length-signsOf (st .sign) (bitsOf 6 w), length-bitsOf 6 w))
+          ∙ ap (λ (bs : List Bool). nth (signsOf (st .sign) bs) i) six
+
+      ucode-is : (i : ℕ) → i < 6 → getD (getD ps i []) (getD cs i 0) 0 % 128 ≡ point r i (getD (frameLabels r ss) i 0)
+      unfolding frameLabels
+      ucode-is i h =
+          ap (λ (u : ℕ). u % 128) (point-in r ps i h (s .points) (getD cs i 0) (sent-small i h))
+          ∙ mod-eq-of-lt (point-lt (member r i) 128 (getD cs i 0) (omega arith))
+          ∙ ap (λ (xs : List ℕ). point r i (getD xs i 0)) (labels-from ∙ ap (labels (sizes r)) (ap (λ (x : ℕ). x / 64) line ∙ number-drop 6 ss))
+
       pub sent-octets : (os : List ℕ) → os ≡ listFrom (octetIn l ps cs n) 0 6 → os ≡ sendFrame r l st ds
-      unfolding sendFrame lineBits
-      sent-octets os eo = octets-are r ss long w line (st .sign) n en l ps cs os (s .points) labels-from sent-small eo
+      unfolding octetIn sendFrame lineBits frameOctets
+      sent-octets os eo =
+          eo
+          ∙ listFrom-ext (octetIn l ps cs n) (λ i. octet l (nth (frameSigns (st .sign) ss) i) (point r i (getD (frameLabels r ss) i 0))) 6
+          (λ i h. ap₂ (octet l) (sign-is i h) (ucode-is i h))
 
       pub sent-state : (h : ℕ) (t : Bool) → h ≡ pushAll (st .history) (scramble (st .history) (bitsOf (m .k + 6) word)) → t ≡ bit n 5
           → record { history = h; sign = t } ≡ sendNext st ds
       unfolding sendNext lineBits
       sent-state h t eh et =
-          ap₂ (λ (x : ℕ) (y : Bool). record { history = x; sign = y }) (eh ∙ ap (pushAll (st .history)) same-bits)
-          (et ∙ sign-is r ss long w line (st .sign) n en 5 (omega arith))
+          ap₂ (λ (x : ℕ) (y : Bool). record { history = x; sign = y }) (eh ∙ ap (pushAll (st .history)) same-bits) (et ∙ sign-is 5 (omega arith))

@@ -122,7 +122,8 @@ fn number_of(sizes: [u64; 6], found: [u8; 6]) -> u64
 // A marked frame: zero data bits, and as many zeros into the history. `sign` is the sign of its sixth octet.
 fn marked_frame(width: usize, state: LineState, sign: bool, mark: u8) -> FrameReceived
     requires { ⌜ (width ≤ 48) × (state .history < 2 ^ 23) ⌝ }
-    ensures { λ x. ⌜ (x .mark ≡ mark) × (x .state .history ≡ pushAll (state .history) (replicate width false)) × (x .state .sign ≡ sign) × (x .bits ≡ 0) ⌝ }
+    ensures { λ x. ⌜ (x .mark ≡ mark) × (x .state .history ≡ pushAll (state .history) (replicate width false))
+        × (x .state .sign ≡ sign) × (x .bits ≡ 0) ⌝ }
 {
     let zeros = descramble_bits(state.history, 0, width);
     let left = LineState {

@@ -1,4 +1,5 @@
-// The scrambler of V.34 and its inverse, many bits at a time. A history has weight 1 for its latest bit; inside it is turned into the order of time, the past, with weight 1 for the oldest.
+// The scrambler of V.34 and its inverse, many bits at a time. A history has weight 1 for its latest bit; inside it is turned
+// into the order of time, the past, with weight 1 for the oldest.
 use bits::bit_of;
 ghost use mathlib.Core.Path.{_≡_};
 ghost use Prim.Native.Nat.{_^_, _<_, _≤_};
@@ -87,7 +88,8 @@ fn scramble_past(past: u32, bits: u64, count: usize) -> Onward
 // The `count` lowest bits of `line`, descrambled after a past.
 fn descramble_past(past: u32, line: u64, count: usize) -> Onward
     requires { ⌜ (past < 2 ^ 23) × (count ≤ 48) ⌝ }
-    ensures { λ r. ⌜ (r .bits ≡ numberOf (descramble (turned past) (bitsOf count line))) × (r .past ≡ turned (pushAll (turned past) (bitsOf count line))) ⌝ }
+    ensures { λ r. ⌜ (r .bits ≡ numberOf (descramble (turned past) (bitsOf count line)))
+        × (r .past ≡ turned (pushAll (turned past) (bitsOf count line))) ⌝ }
 {
     let all = (past as u64) | (line << 23);
     let plain = (line ^ (all >> 5) ^ all) % (1u64 << count);

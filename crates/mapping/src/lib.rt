@@ -69,7 +69,8 @@ fn first_naming(r: Record, i: usize) -> usize
 // tables are copied.
 fn draw_interval(r: Record, i: usize, points: &mut [[u8; 128]; 6], labels: &mut [[u8; 128]; 6])
     requires { ⌜ (i < 6) × (indexOf r i ≤ 5) × DrawnBefore r (now points) (now labels) i ⌝ }
-    ensures { λ _. ⌜ (now (points .exit) ≡ set (now (points .entry)) i (pointTable (member r i))) × (now (labels .exit) ≡ set (now (labels .entry)) i (labelTable (member r i))) ⌝ }
+    ensures { λ _. ⌜ (now (points .exit) ≡ set (now (points .entry)) i (pointTable (member r i)))
+        × (now (labels .exit) ≡ set (now (labels .entry)) i (labelTable (member r i))) ⌝ }
 {
     let j = first_naming(r, i);
     if j < i {

@@ -25,29 +25,33 @@ draw-up-requires c κs = (c .before .before .before .before .before .pre .0 .ind
 frame-width-requires : tie.Need-frame-width-requires Inv-loop μ-loop
 frame-width-requires c κs = tt
 
+-- the call, before anything is drawn up
+abbrev start : tie.After-frame-width Inv-loop μ-loop → tie.Start Inv-loop μ-loop
+start c = c .before .before .before .before .before .before .before
+
 -- the data buffer holds bytes
 byte : (c : tie.After-slice-known Inv-loop μ-loop) (i : ℕ) → getD (c .before .before .args .bytes .now) i 0 < 256
 byte c i = omega (arith, c .slice-known .given i)
 
 loop-holds : tie.Need-loop-holds Inv-loop μ-loop
 loop-holds c r d =
-    let a = c .before .before .before .before .before .before .before .args in
+    let a = start c .args in
     receive-start r (a .law) (a .frames) (a .state) (a .octets .now) (a .bytes .now) (a .marks .now) (d .allowed .history) (byte (c .before .before .before .before .before))
 
 -- what the call draws up of its record
 drawn : (c : tie.After-frame-width Inv-loop μ-loop)
-    → Drawn labelTables (c .before .before .before .before .before .before .before .args .r) (c .before .before .before .before .before .before .before .args .state) (c .before .before .before .before .before .before .before .args .frames) (c .frame-width .result) (c .before .draw-up .result) (c .before .draw-up .last .1 .1 .0)
+    → Drawn labelTables (start c .args .r) (start c .args .state) (start c .args .frames) (c .frame-width .result) (c .before .draw-up .result) (c .before .draw-up .last .1 .1 .0)
 drawn c =
     let e = c .before .draw-up .ensures in
-    record { allowed = c .before .before .before .before .before .before .before .pre .0; wide = c .frame-width .ensures; mapped = e .0; tabled = e .2 }
+    record { allowed = start c .pre .0; wide = c .frame-width .ensures; mapped = e .0; tabled = e .2 }
 
 -- the turn is one of 1,024 at most
 few : (c : tie.In-loop Inv-loop μ-loop) → c .before .loop .n < 1024
-few c = omega (arith, c .before .before .before .before .before .before .before .before .before .pre .0 .few)
+few c = omega (arith, start (c .before .before) .pre .0 .few)
 
 -- no call has more data bits than these
-bits-in : (c : tie.After-frame-width Inv-loop μ-loop) (n : ℕ) → n ≤ c .before .before .before .before .before .before .before .args .frames → (c .frame-width .result ≤ 48) × (n * c .frame-width .result ≤ 49152)
-bits-in c n h = let b = c .before .before .before .before .before .before .before in few-bits (b .args .r) n (b .args .frames) (c .frame-width .result) h (b .pre .0 .few) (c .frame-width .ensures) (b .pre .0 .rate)
+bits-in : (c : tie.After-frame-width Inv-loop μ-loop) (n : ℕ) → n ≤ start c .args .frames → (c .frame-width .result ≤ 48) × (n * c .frame-width .result ≤ 49152)
+bits-in c n h = let b = start c in few-bits (b .args .r) n (b .args .frames) (c .frame-width .result) h (b .pre .0 .few) (c .frame-width .ensures) (b .pre .0 .rate)
 
 mul-at : tie.Need-mul-at Inv-loop μ-loop
 mul-at c = omega (arith, few c)
@@ -62,11 +66,11 @@ part-receive-frame-start : tie.Need-part-receive-frame-start Inv-loop μ-loop
 part-receive-frame-start c = omega arith
 
 part-receive-frame-end : tie.Need-part-receive-frame-end Inv-loop μ-loop
-part-receive-frame-end c = omega (arith, c .before .before .before .before .before .before .before .before .before .before .pre .1)
+part-receive-frame-end c = omega (arith, start (c .before .before .before) .pre .1)
 
 receive-frame-requires : tie.Need-receive-frame-requires Inv-loop μ-loop
 receive-frame-requires c κs =
-    let b = c .before .before .before .before .before .before .before .before .before .before .before in
+    let b = start (c .before .before .before .before) in
     let l = c .before .before .before .loop in
     let d = drawn (c .before .before .before .before) in (
       (b .args .r, receivable (b .args .r) (b .args .law) (b .args .frames) (b .args .state) (b .args .octets .now) (b .args .bytes .now) (b .args .marks .now) (l .n) _ _ _ (l .left) _ _ d (l .inv _ d)),
@@ -78,7 +82,7 @@ mul-put-field c = omega (arith, bits-in (c .before .before .before .before .befo
 
 put-field-requires : tie.Need-put-field-requires Inv-loop μ-loop
 put-field-requires c κs =
-    let b = c .before .before .before .before .before .before .before .before .before .before .before .before .before in
+    let b = start (c .before .before .before .before .before .before) in
     let l = c .before .before .before .before .before .loop in
     let in-call = bits-in (c .before .before .before .before .before .before) (l .n) (omega arith) in (
       omega (arith, in-call .0),
@@ -87,7 +91,7 @@ put-field-requires c κs =
     )
 
 slice-write-marks : tie.Need-slice-write-marks Inv-loop μ-loop
-slice-write-marks c = let l = c .before .before .before .before .before .before .before .before .loop in omega (arith, c .before .before .before .before .before .before .before .before .before .before .before .before .before .before .before .before .pre .3, l .inv _ (drawn (c .before .before .before .before .before .before .before .before .before)) .longMarks)
+slice-write-marks c = let l = c .before .before .before .before .before .before .before .before .loop in omega (arith, start (c .before .before .before .before .before .before .before .before .before) .pre .3, l .inv _ (drawn (c .before .before .before .before .before .before .before .before .before)) .longMarks)
 
 add-n : tie.Need-add-n Inv-loop μ-loop
 add-n c = omega (arith, few (c .before .before .before .before .before .before .before .before))
@@ -97,7 +101,7 @@ loop-less c = omega arith
 
 loop-again : tie.Need-loop-again Inv-loop μ-loop
 loop-again c r d =
-    let b = c .before .before .before .before .before .before .before .before .before .before .before .before .before .before .before .before .before in
+    let b = start (c .before .before .before .before .before .before .before .before .before .before) in
     let a = b .args in
     let l = c .before .before .before .before .before .before .before .before .before .loop in
     let so-far = l .inv r d in
@@ -109,7 +113,7 @@ mul-used : tie.Need-mul-used Inv-loop μ-loop
 mul-used c = omega (arith, bits-in (c .before .before) _ (le-refl _) .1)
 
 data-bytes-requires : tie.Need-data-bytes-requires Inv-loop μ-loop
-data-bytes-requires c κs = (bits-in (c .before .before .before) _ (le-refl _) .0, c .before .before .before .before .before .before .before .before .before .before .pre .0 .few)
+data-bytes-requires c κs = (bits-in (c .before .before .before) _ (le-refl _) .0, start (c .before .before .before) .pre .0 .few)
 
 mul-put-field-2 : tie.Need-mul-put-field-2 Inv-loop μ-loop
 mul-put-field-2 c = omega (arith, bits-in (c .before .before .before .before) _ (le-refl _) .1, c .data-bytes .ensures)
@@ -119,7 +123,7 @@ sub-put-field c = omega (arith, c .data-bytes .ensures)
 
 put-field-requires-2 : tie.Need-put-field-requires-2 Inv-loop μ-loop
 put-field-requires-2 c κs =
-    let b = c .before .before .before .before .before .before .before .before .before .before .before in
+    let b = start (c .before .before .before .before) in
     let room = rest-room (b .args .r) (b .args .frames) _ (c .data-bytes .result) (length (b .args .bytes .now)) (c .before .before .before .before .frame-width .ensures) (c .data-bytes .ensures) (b .pre .2) in
     (room .0, omega (arith, bits-in (c .before .before .before .before) _ (le-refl _) .1), omega (arith, room .1, c .before .before .before .loop .inv _ (drawn (c .before .before .before .before)) .longBits))
 
@@ -133,7 +137,7 @@ same-length-2 c = c .before .before .before .before .before .before .loop .inv _
 
 returns : tie.Need-returns Inv-loop μ-loop
 returns c =
-    let b = c .before .before .before .before .before .before .before .before .before .before .before .before .before .before in
+    let b = start (c .before .before .before .before .before .before .before) in
     let a = b .args in
     let l = c .before .before .before .before .before .before .loop in
     let needed = c .before .before .before .data-bytes in

@@ -25,28 +25,32 @@ draw-up-requires c κs = (c .before .before .before .before .pre .0 .index, refl
 frame-width-requires : tie.Need-frame-width-requires Inv-loop μ-loop
 frame-width-requires c κs = tt
 
+-- the call, before anything is drawn up
+abbrev start : tie.After-frame-width Inv-loop μ-loop → tie.Start Inv-loop μ-loop
+start c = c .before .before .before .before .before .before
+
 loop-holds : tie.Need-loop-holds Inv-loop μ-loop
 loop-holds c r d =
-    let a = c .before .before .before .before .before .before .args in
+    let a = start c .args in
     send-start r (a .law) (a .frames) (a .state) (a .bytes .now) (a .octets .now) (d .allowed .history)
 
 -- what the call draws up of its record
 drawn : (c : tie.After-frame-width Inv-loop μ-loop)
-    → Drawn pointTables (c .before .before .before .before .before .before .args .r) (c .before .before .before .before .before .before .args .state)
-    (c .before .before .before .before .before .before .args .frames) (c .frame-width .result) (c .before .draw-up .result) (c .before .draw-up .last .1 .0)
+    → Drawn pointTables (start c .args .r) (start c .args .state)
+    (start c .args .frames) (c .frame-width .result) (c .before .draw-up .result) (c .before .draw-up .last .1 .0)
 drawn c =
     let e = c .before .draw-up .ensures in
-    record { allowed = c .before .before .before .before .before .before .pre .0; wide = c .frame-width .ensures; mapped = e .0; tabled = e .1 }
+    record { allowed = start c .pre .0; wide = c .frame-width .ensures; mapped = e .0; tabled = e .1 }
 
 bits-in : (c : tie.In-loop Inv-loop μ-loop) → (c .before .before .frame-width .result ≤ 48) × (c .before .loop .n * c .before .before .frame-width .result ≤ 49152)
 bits-in c =
-    let b = c .before .before .before .before .before .before .before .before in
+    let b = start (c .before .before) in
     few-bits (b .args .r) (c .before .loop .n) (b .args .frames) (c .before .before .frame-width .result) (omega arith) (b .pre .0 .few) (c .before .before .frame-width .ensures) (b .pre .0 .rate)
 
 -- the turn is one of 1,024 at most, and the octets are as many as were lent
 turn : (c : tie.In-loop Inv-loop μ-loop) → (c .before .loop .n < 1024) × (6 * c .before .loop .n + 6 ≤ length (c .before .loop .octets))
 turn c =
-    let b = c .before .before .before .before .before .before .before .before in
+    let b = start (c .before .before) in
     (omega (arith, b .pre .0 .few), omega (arith, c .before .loop .inv _ (drawn (c .before .before)) .long))
 
 mul-field-at : tie.Need-mul-field-at Inv-loop μ-loop
@@ -72,7 +76,7 @@ part-send-frame-end c = omega (arith, turn (c .before .before) .1)
 
 send-frame-requires : tie.Need-send-frame-requires Inv-loop μ-loop
 send-frame-requires c κs =
-    let b = c .before .before .before .before .before .before .before .before .before .before .before in
+    let b = start (c .before .before .before .before .before) in
     let l = c .before .before .before .before .loop in
     let d = drawn (c .before .before .before .before .before) in (
       (b .args .r, sendable (b .args .r) (b .args .law) (b .args .frames) (b .args .state) (b .args .bytes .now) (b .args .octets .now) (l .n) _ _ _ (l .left) (l .octets) d (l .inv _ d) (omega arith)),
@@ -87,7 +91,7 @@ loop-less c = omega arith
 
 loop-again : tie.Need-loop-again Inv-loop μ-loop
 loop-again c r d =
-    let b = c .before .before .before .before .before .before .before .before .before .before .before .before .before .before in
+    let b = start (c .before .before .before .before .before .before .before .before) in
     let a = b .args in
     let l = c .before .before .before .before .before .before .before .loop in
     let call = c .before .before .send-frame in
@@ -102,7 +106,7 @@ same-length c = c .before .loop .inv _ (drawn (c .before .before)) .long
 
 returns : tie.Need-returns Inv-loop μ-loop
 returns c =
-    let a = c .before .before .before .before .before .before .before .before .args in
+    let a = start (c .before .before) .args in
     let l = c .before .loop in
     send-all (a .r) (a .law) (a .frames) (a .state) (a .bytes .now) (a .octets .now) (l .n) (l .left) (l .octets) (l .inv _ (drawn (c .before .before))) (omega arith)
 
