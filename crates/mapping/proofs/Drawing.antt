@@ -21,6 +21,8 @@ use Rattle.mapping.specs.Tables.{pointTable, labelOrNone, labelTable}
 use Rattle.mapping.specs.Drawing.{leftIn, Drawing}
 use Rattle.mapping.proofs.Lowest.{Lowest}
 
+-- ---- the smallest Ucode left, one a turn
+
 same-at : (n v j : ℕ) → j < n → _≡_ {A = ℕ} (getD (replicate n v) j 0) v
 same-at zero v j h = absurd (omega arith)
 same-at (suc n) v zero h = refl
@@ -30,6 +32,7 @@ size-none : (m : ℕ → Bool) → sizeOf m 0 ≡ 0
 unfolding sizeOf
 size-none m = refl
 
+-- the whole mask is left
 drawing-none : (m : ℕ → Bool) (c : ℕ) → c ≡ sizeOf m 128 → Drawing m m (replicate 128 0) (replicate 128 255) c
 drawing-none m c e =
     record {
@@ -64,6 +67,7 @@ module _ (m left : ℕ → Bool) (ps ls : List ℕ) (c : ℕ) (p : Drawing m lef
     unfolding sizeOf
     below = omega (arith, ap weight inside, stretch-none m (p .v) u from (λ w a l. sym (p .same w a) ∙ q .least w l))
 
+    -- the smallest Ucode left has the highest label left
     pub label-is : labelOf m 128 u + 1 ≡ c
     label-is = omega (arith, below, label-above m 128 u h, p .count)
 
@@ -102,6 +106,7 @@ module _ (m left : ℕ → Bool) (ps ls : List ℕ) (c : ℕ) (p : Drawing m lef
             let out : m w ≡ false = sym (p .same w (omega arith)) ∙ q .least w k in
             getD-set-other ls u w (c - 1) 0 (λ e. omega arith) ∙ p .blank w (omega arith) (omega arith) ∙ rw out
 
+  -- nothing is left
   drawing-all : c ≡ 0 → (ps ≡ pointTable m) × (ls ≡ labelTable m)
   unfolding pointTable labelTable labelOrNone
   drawing-all z = (

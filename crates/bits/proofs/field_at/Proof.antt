@@ -29,7 +29,7 @@ word-at-requires : tie.Need-word-at-requires
 word-at-requires c κs = inside c .0
 
 shr-result : tie.Need-shr-result
-shr-result c = omega arith
+shr-result c = omega (arith, inside (c .before) .1)
 
 shl-result : tie.Need-shl-result
 shl-result c = omega (arith, inside (c .before) .1)
