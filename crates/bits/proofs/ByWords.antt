@@ -12,10 +12,10 @@ use lib.Dec.{ltb}
 use lib.ListN.{getD}
 use lib.Pow.{pow-pos, pow-mono, shl-exact, shl-shr}
 use Rattle.standard.specs.Bits.{_⊕_, odd, bit, bitAt, field}
-use Rattle.standard.proofs.Bits.{field-lt, field-bit, field-is}
+use Rattle.standard.proofs.Bits.{field-lt, field-bit, field-is, field-split}
 use Rattle.standard.proofs.Words.{one-shifted}
 use Rattle.bits.specs.PutField.{bitWith, wordWith, putField}
-use Rattle.bits.proofs.Bits.{low-bit, down-bit, xor-bit, bitAt-byte, field-split}
+use Rattle.bits.proofs.Bits.{low-bit, down-bit, xor-bit, bitAt-byte}
 use Rattle.bits.proofs.PutField.{bitWith-in, bitWith-below, bitWith-above, bitWith-from, putField-part}
 
 -- the code's test fails: the word is in the bytes, and the field in the word

@@ -1,9 +1,9 @@
 -- Laws of the CRC, of fields and of tests as the reader's code goes through them. Assumes nothing.
 use mathlib.Core.Path.{_≡_, refl, sym, ap, ap₂, _∙_}
-use Prim.Native.Nat.{ℕ, zero, suc, _+_, _*_, _/_, _%_, _^_, _≤_}
+use Prim.Native.Nat.{ℕ, _+_, _*_, _/_, _%_, _≤_}
 use mathlib.Core.Bool.{Bool, cond, not, _||_, Bool·beq}
 use mathlib.Core.List.{List, _++_}
-use native.Mathlib.Nat.{add-zero, zero-add, add-suc, suc-add, mul-assoc, pow-suc}
+use native.Mathlib.Nat.{zero-add}
 use native.Mathlib.Omega.{arith}
 use borrow.Author.Tests.{le-ltb}
 use lib.Dec.{eqb}
@@ -19,7 +19,7 @@ use Rattle.standard.specs.declared.Outcome.{Outcome}
 use Rattle.standard.specs.declared.Outcome.the-variants.{Done, Refused}
 use Rattle.standard.specs.declared.Record.{Record}
 use Rattle.standard.specs.declared.Refusal.{Refusal}
-use Rattle.standard.proofs.Bits.{field-ext}
+use Rattle.standard.proofs.Bits.{field-ext, field-split}
 use Rattle.standard.proofs.Crc.{crcBelow-next}
 use Rattle.standard.proofs.Lists.{any-next, getD-list, largest-ext}
 use Rattle.standard.proofs.Words.{odd-test}
@@ -39,17 +39,6 @@ pub crc-turn : (f : ℕ → Bool) (n : ℕ) → 18 ≤ n → crcBelow f (n + 1) 
 crc-turn f n h = crcBelow-next f n ∙ ap (λ (b : Bool). cond (b || eqb (n % 17) 0) (crcBelow f n) (crcStep (crcBelow f n) (f n))) (le-ltb n 18 h)
 
 -- ---- fields
-
--- a field in two parts
-pub field-split : (f : ℕ → Bool) (p a b : ℕ) → field f p (a + b) ≡ field f p a + 2 ^ a * field f (p + a) b
-unfolding field
-field-split f p zero b =
-    let e : 0 + 2 ^ 0 * field f (p + 0) b ≡ field f (p + 0) b = omega arith in
-    ap (field f p) (zero-add b) ∙ ap (λ (q : ℕ). field f q b) (sym (add-zero p)) ∙ sym e
-field-split f p (suc a) b =
-    let e : 2 ^ suc a * field f (p + suc a) b ≡ 2 * (2 ^ a * field f (suc p + a) b)
-    = ap₂ (λ (x q : ℕ). x * field f q b) (pow-suc 2 a) (add-suc p a ∙ sym (suc-add p a)) ∙ omega (arith, mul-assoc (2 ^ a) 2 (field f (suc p + a) b), mul-assoc 2 (2 ^ a) (field f (suc p + a) b)) in
-    ap (field f p) (suc-add a b) ∙ omega (arith, field-split f (suc p) a b, e)
 
 -- the run that begins at Ucode p of a mask
 run-bits : (f : ℕ → Bool) (m p c : ℕ) → p ≡ 16 * c → field (maskBitIn f m) p 16 ≡ field f (runPlace m c) 16

@@ -11,10 +11,10 @@ use lib.ListN.{length}
 use lib.Pow.{pow-pos, shl-exact, shr-shr, mod-pow-add, mod-mod-pow, field as pow-field}
 use Rattle.standard.specs.Bits.{_⊕_, weight, positive, odd, bit, field, numberOf, bitsOf}
 use Rattle.standard.specs.Scrambler.{taps, push, pushAll, scramble, descramble}
-use Rattle.standard.proofs.Bits.{xor-cancel, weight-lt, odd-weight, weight-odd, bit-suc, field-lt, field-bit, field-ext, field-is, numberOf-lt, length-bitsOf}
+use Rattle.standard.proofs.Bits.{xor-cancel, weight-lt, odd-weight, weight-odd, bit-suc, field-lt, field-bit, field-ext, field-is, numberOf-lt, length-bitsOf, field-split}
 use Rattle.standard.proofs.Scrambler.{length-scramble, scramble-append, pushAll-append, pushAll-lt}
 use Rattle.standard.proofs.Words.{number-append, bits-number}
-use Rattle.bits.proofs.Bits.{low-bit, down-bit, xor-bit, field-split}
+use Rattle.bits.proofs.Bits.{low-bit, down-bit, xor-bit}
 use Rattle.frame.specs.Past.{inTime, turned, Scrambled}
 
 -- ---- bits of numbers, as lists

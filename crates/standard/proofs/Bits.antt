@@ -3,7 +3,7 @@ use mathlib.Core.Path.{_≡_, refl, sym, ap, ap₂, _∙_}
 use Prim.Native.Nat.{ℕ, zero, suc, _+_, _*_, _/_, _%_, _^_, _≤_, _<_, suc-le-suc}
 use mathlib.Core.Bool.{Bool, true, false}
 use mathlib.Core.List.{List, [], _∷_, _++_}
-use native.Mathlib.Nat.{add-zero, zero-add, add-suc, suc-add, pow-suc, mod-one, div-one, mod-eq-of-lt, zero-div, not-suc-le-zero, zero-lt-suc, le-of-suc-le-suc, suc-ne-zero, suc-inj}
+use native.Mathlib.Nat.{add-zero, zero-add, add-suc, suc-add, mul-assoc, pow-suc, mod-one, div-one, mod-eq-of-lt, zero-div, not-suc-le-zero, zero-lt-suc, le-of-suc-le-suc, suc-ne-zero, suc-inj}
 use native.Mathlib.Numerals.{add-one, one-add}
 use native.Mathlib.Omega.{arith}
 use lib.Dec.{lit<}
@@ -71,6 +71,17 @@ field-ext f g p q zero e = refl
 field-ext f g p q (suc k) e =
     ap₂ (λ (a : Bool) (b : ℕ). weight a + 2 * b) (ap f (sym (add-zero p)) ∙ e zero (zero-lt-suc k) ∙ ap g (add-zero q))
     (field-ext f g (suc p) (suc q) k (λ j h. ap f (suc-add p j ∙ sym (add-suc p j)) ∙ e (suc j) (suc-le-suc h) ∙ ap g (add-suc q j ∙ sym (suc-add q j))))
+
+-- a field in two parts
+pub field-split : (f : ℕ → Bool) (p a b : ℕ) → field f p (a + b) ≡ field f p a + 2 ^ a * field f (p + a) b
+unfolding field
+field-split f p zero b =
+    let e : 0 + 2 ^ 0 * field f (p + 0) b ≡ field f (p + 0) b = omega arith in
+    ap (field f p) (zero-add b) ∙ ap (λ (q : ℕ). field f q b) (sym (add-zero p)) ∙ sym e
+field-split f p (suc a) b =
+    let e : 2 ^ suc a * field f (p + suc a) b ≡ 2 * (2 ^ a * field f (suc p + a) b)
+    = ap₂ (λ (x q : ℕ). x * field f q b) (pow-suc 2 a) (add-suc p a ∙ sym (suc-add p a)) ∙ omega (arith, mul-assoc (2 ^ a) 2 (field f (suc p + a) b), mul-assoc 2 (2 ^ a) (field f (suc p + a) b)) in
+    ap (field f p) (suc-add a b) ∙ omega (arith, field-split f (suc p) a b, e)
 
 -- the bits of a number from place p on
 pub field-number : (w p k : ℕ) → field (bit w) p k ≡ w / 2 ^ p % 2 ^ k
