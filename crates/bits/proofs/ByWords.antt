@@ -1,7 +1,7 @@
 -- Fields of bytes read and put by words of 64 bits. Assumes nothing.
 use mathlib.Core.Path.{_≡_, refl, sym, ap, ap₂, _∙_}
 use Prim.Native.Nat.{ℕ, _+_, _-_, _*_, _/_, _%_, _^_, _≤_, _<_}
-use mathlib.Core.Bool.{Bool, true, false, _||_, true≢false}
+use mathlib.Core.Bool.{Bool, true, false, _||_}
 use mathlib.Core.List.{List}
 use native.Mathlib.Nat.{zero-add, mul-comm, add-comm, mul-mod-left, zero-div, div-eq-of-lt, mod-lt, lt-of-lt-of-le}
 use native.Mathlib.Decide.{decLt}
@@ -12,6 +12,7 @@ use lib.Dec.{ltb}
 use lib.ListN.{getD}
 use lib.Pow.{pow-pos, pow-mono, shl-exact, shl-shr}
 use Rattle.standard.specs.Bits.{_⊕_, odd, bit, bitAt, field}
+use Rattle.standard.proofs.Lists.{or-none}
 use Rattle.standard.proofs.Bits.{field-lt, field-bit, field-is, field-split}
 use Rattle.standard.proofs.Words.{one-shifted}
 use Rattle.bits.specs.PutField.{bitWith, wordWith, putField}
@@ -20,11 +21,7 @@ use Rattle.bits.proofs.PutField.{bitWith-in, bitWith-below, bitWith-abo
 
 -- the code's test fails: the word is in the bytes, and the field in the word
 pub neither : (a b c d : ℕ) → ltb a b || ltb c d ≡ false → (b ≤ a) × (d ≤ c)
-neither a b c d e = let q = none (ltb a b) (ltb c d) e in (ltb-false a b (q .0), ltb-false c d (q .1))
-  where
-    none : (x y : Bool) → x || y ≡ false → (x ≡ false) × (y ≡ false)
-    none true y e = (e, absurd (true≢false e))
-    none false y e = (refl, e)
+neither a b c d e = let q = or-none (ltb a b) (ltb c d) e in (ltb-false a b (q .0), ltb-false c d (q .1))
 
 -- ---- a word read
 

@@ -1,22 +1,21 @@
 -- The tables of the six intervals, one interval a turn, and what stands in them. Assumes nothing.
 use mathlib.Core.Path.{_≡_, refl, ap, ap₂, _∙_}
-use mathlib.Core.Logic.{_⊎_, inl, inr}
 use Prim.Native.Nat.{ℕ, _+_, _≤_, _<_}
 use mathlib.Core.Bool.{Bool, true, false, cond, not}
 use mathlib.Core.List.{List, []}
 use native.Mathlib.Decide.{decLt}
-use native.Mathlib.Nat.{not-suc-le-zero, eq-or-lt-of-le}
+use native.Mathlib.Nat.{not-suc-le-zero}
 use native.Mathlib.Omega.{arith}
 use borrow.Author.Tests.{ne-eqb}
 use lib.Dec.{eqb}
 use lib.ListN.{length, getD, set, length-set, List·getD-eq-default}
-use lib.Seq.{getD-set-same, getD-set-other}
-use Rattle.standard.specs.Lists.{listFrom}
 use Rattle.standard.specs.Record.{indexOf, inMask}
-use Rattle.standard.specs.Constellation.{labelOf, pointOf, member, size, point, sizes}
+use Rattle.standard.specs.Constellation.{labelOf, pointOf, member, point, sizes}
 use Rattle.standard.specs.declared.Record.{Record}
-use Rattle.standard.proofs.Lists.{length-listFrom, listFrom-is, listFrom-ext, getD-list}
+use Rattle.standard.proofs.Lists.{listFrom-is, listFrom-ext, getD-list}
+use Rattle.standard.proofs.Filling.{one-more}
 use Rattle.standard.proofs.Constellation.{sizeOf-le, label-above}
+use Rattle.standard.proofs.Frame.{length-sizes, size-at}
 use Rattle.constellation.specs.Mask.{has, maskOf}
 use Rattle.constellation.proofs.Masks.{mask-member, mask-label, mask-point}
 use Rattle.mapping.specs.declared.Mapping.{Mapping}
@@ -39,15 +38,6 @@ module _ (r : Record) (i : ℕ) where
   unfolding member
   same-member j e = ap {B = ℕ → Bool} (λ (m : ℕ). inMask r m) e
 
--- one place more
-one-more : (f : ℕ → List ℕ) (ts : List (List ℕ)) (i : ℕ) → i < length ts → ((j : ℕ) → j < i → getD ts j [] ≡ f j)
-    → (j : ℕ) → j < i + 1 → getD (set ts i (f i)) j [] ≡ f j
-one-more f ts i h done j l = go (eq-or-lt-of-le (omega arith))
-  where
-    go : (j ≡ i) ⊎ (j < i) → getD (set ts i (f i)) j [] ≡ f j
-    go (inl e) = rw e (getD-set-same ts i (f i) [] h)
-    go (inr k) = getD-set-other ts i j (f i) [] (λ (e : j ≡ i). omega arith) ∙ done j k
-
 module _ (r : Record) (ps ls : List (List ℕ)) where
   pub before-none : length ps ≡ 6 → length ls ≡ 6 → DrawnBefore r ps ls 0
   before-none a b = record { longPoints = a; longLabels = b; points = λ j h. absurd (not-suc-le-zero h); labels = λ j h. absurd (not-suc-le-zero h) }
@@ -57,8 +47,8 @@ module _ (r : Record) (ps ls : List (List ℕ)) where
       record {
         longPoints = length-set ps i _ ∙ p .longPoints;
         longLabels = length-set ls i _ ∙ p .longLabels;
-        points = one-more (λ j. pointTable (member r j)) ps i (omega (arith, p .longPoints)) (p .points);
-        labels = one-more (λ j. labelTable (member r j)) ls i (omega (arith, p .longLabels)) (p .labels);
+        points = one-more [] (λ j. pointTable (member r j)) ps i _ (omega (arith, p .longPoints)) refl (p .points);
+        labels = one-more [] (λ j. labelTable (member r j)) ls i _ (omega (arith, p .longLabels)) refl (p .labels);
       }
 
   pub before-all : DrawnBefore r ps ls 6 → (ps ≡ pointTables r) × (ls ≡ labelTables r)
@@ -89,12 +79,11 @@ module _ (r : Record) (m : Mapping) (e : m ≡ mappingOf r) where
   width-le h = omega (arith, ap (λ (x : Mapping). x .k) e)
 
   pub size-le : (i : ℕ) → getD (m .sizes) i 0 ≤ 128
-  unfolding sizes
   size-le i = rw e (go (decLt i 6))
     where
       go : Dec (i < 6) → getD (sizes r) i 0 ≤ 128
-      go (yes h) = omega (arith, getD-list (size r) 0 6 i h, sizeOf-le (member r i) 128)
-      go (no h) = omega (arith, List·getD-eq-default (listFrom (size r) 0 6) 0 {n = i} (omega (arith, length-listFrom (size r) 0 6)))
+      go (yes h) = omega (arith, size-at r i h, sizeOf-le (member r i) 128)
+      go (no h) = omega (arith, List·getD-eq-default (sizes r) 0 {n = i} (omega (arith, length-sizes r)))
 
 -- none stands where the mask lacks the Ucode, and there alone
 module _ (m : ℕ → Bool) (u : ℕ) (h : u < 128) where

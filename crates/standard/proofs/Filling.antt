@@ -12,6 +12,15 @@ use Rattle.standard.specs.Lists.{listFrom}
 use Rattle.standard.specs.Calls.{over}
 use Rattle.standard.proofs.Lists.{length-listFrom, listFrom-is, listFrom-snoc}
 
+-- one place more
+pub one-more : {X : Type 0} (d : X) (f : ℕ → X) (xs : List X) (i : ℕ) (v : X) → i < length xs → v ≡ f i → ((k : ℕ) → k < i → getD xs k d ≡ f k)
+    → (k : ℕ) → k < i + 1 → getD (set xs i v) k d ≡ f k
+one-more d f xs i v h e done k l = go (eq-or-lt-of-le (omega arith))
+  where
+    go : (k ≡ i) ⊎ (k < i) → getD (set xs i v) k d ≡ f k
+    go (inl q) = rw q (getD-set-same xs i v d h ∙ e)
+    go (inr q) = getD-set-other xs i k v d (λ (z : k ≡ i). omega arith) ∙ done k q
+
 -- the first i of n numbers are as f says
 pub record Filled (f : ℕ → ℕ) (n : ℕ) (xs : List ℕ) (i : ℕ) : Type 0 where
   pub long : length xs ≡ n
@@ -21,11 +30,7 @@ pub filled-none : (f : ℕ → ℕ) (n : ℕ) (xs : List ℕ) → length xs ≡ 
 filled-none f n xs e = record { long = e; done = λ k l. absurd (not-suc-le-zero l) }
 
 pub filled-more : {f : ℕ → ℕ} {n i : ℕ} {xs : List ℕ} (v : ℕ) → Filled f n xs i → i < n → v ≡ f i → Filled f n (set xs i v) (i + 1)
-filled-more {f} {n} {i} {xs} v p h e = record { long = length-set xs i v ∙ p .long; done = λ k l. go k (eq-or-lt-of-le (omega arith)) }
-  where
-    go : (k : ℕ) → (k ≡ i) ⊎ (k < i) → getD (set xs i v) k 0 ≡ f k
-    go k (inl q) = rw q (getD-set-same xs i v 0 (omega (arith, p .long)) ∙ e)
-    go k (inr q) = getD-set-other xs i k v 0 (λ (z : k ≡ i). omega arith) ∙ p .done k q
+filled-more {f} {n} {i} {xs} v p h e = record { long = length-set xs i v ∙ p .long; done = one-more 0 f xs i v (omega (arith, p .long)) e (p .done) }
 
 pub filled-all : {f : ℕ → ℕ} {n : ℕ} {xs : List ℕ} → Filled f n xs n → xs ≡ listFrom f 0 n
 filled-all {f} {n} {xs} p = listFrom-is f 0 n xs (p .long) (p .done)
