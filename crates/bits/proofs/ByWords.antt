@@ -9,14 +9,14 @@ use native.Mathlib.Omega.{arith}
 use borrow.Author.Tests.{ltb-false}
 use lib.Bits.{bitOr, bitXor, or-shifted-r, xor-lt}
 use lib.Dec.{ltb}
-use lib.ListN.{getD}
+use lib.ListN.{length, getD}
 use lib.Pow.{pow-pos, pow-mono, shl-exact, shl-shr}
 use Rattle.standard.specs.Bits.{_⊕_, odd, bit, bitAt, field}
 use Rattle.standard.proofs.Lists.{or-none}
 use Rattle.standard.proofs.Bits.{field-lt, field-bit, field-is, field-split}
 use Rattle.standard.proofs.Words.{one-shifted}
 use Rattle.bits.specs.PutField.{bitWith, wordWith, putField}
-use Rattle.bits.proofs.Bits.{low-bit, down-bit, xor-bit, bitAt-byte}
+use Rattle.bits.proofs.Bits.{low-bit, down-bit, xor-bit, bitAt-byte, bitAt-past}
 use Rattle.bits.proofs.PutField.{bitWith-in, bitWith-below, bitWith-above, bitWith-from, putField-part}
 
 -- the code's test fails: the word is in the bytes, and the field in the word
@@ -25,18 +25,29 @@ neither a b c d e = let q = or-none (ltb a b) (ltb c d) e in (ltb-false a b (q .
 
 -- ---- a word read
 
+-- a byte on top of k bytes, as code joins them
+pub byte-joined : (v k b : ℕ) → k < 8 → v < 2 ^ (8 * k) → b < 256 → bitOr v (b * 2 ^ (8 * k) % 2 ^ 64) ≡ b * 2 ^ (8 * k) + v
+byte-joined v k b l lv lb = ap (bitOr v) (shl-exact 8 (8 * k) 64 lb (omega arith)) ∙ or-shifted-r b (8 * k) v lv
+
 -- one byte more
-pub word-more : (s : List ℕ) (i k v b : ℕ) → k < 8 → v ≡ field (bitAt s) (8 * i) (8 * k) → b ≡ getD s (i + k) 0 → b < 256
-    → bitOr v (b * 2 ^ (8 * k) % 2 ^ 64) ≡ field (bitAt s) (8 * i) (8 * (k + 1))
-word-more s i k v b l ev eb lb =
-    let lv : v < 2 ^ (8 * k) = rw ev (field-lt (bitAt s) (8 * i) (8 * k)) in
+pub word-more : (s : List ℕ) (i k v w b : ℕ) → v ≡ field (bitAt s) (8 * i) (8 * k) → b ≡ getD s (i + k) 0 → w ≡ b * 2 ^ (8 * k) + v → b < 256
+    → w ≡ field (bitAt s) (8 * i) (8 * (k + 1))
+word-more s i k v w b ev eb ew lb =
     let e : 8 * k + 8 ≡ 8 * (k + 1) = omega arith in
     let q : 8 * (i + k) ≡ 8 * i + 8 * k = omega arith in
     let byte : field (bitAt s) (8 * i + 8 * k) 8 ≡ b
     = ap (λ (p : ℕ). field (bitAt s) p 8) (sym q) ∙ field-is (bitAt s) (8 * (i + k)) 8 b (λ j h. bitAt-byte s (i + k) j h ∙ ap (λ (x : ℕ). bit x j) (sym eb)) lb in
-    ap (bitOr v) (shl-exact 8 (8 * k) 64 lb (omega arith)) ∙ or-shifted-r b (8 * k) v lv ∙ add-comm (b * 2 ^ (8 * k)) v
-    ∙ ap₂ _+_ ev (mul-comm b (2 ^ (8 * k)) ∙ ap (λ (x : ℕ). 2 ^ (8 * k) * x) (sym byte))
+    ew ∙ add-comm (b * 2 ^ (8 * k)) v ∙ ap₂ _+_ ev (mul-comm b (2 ^ (8 * k)) ∙ ap (λ (x : ℕ). 2 ^ (8 * k) * x) (sym byte))
     ∙ sym (field-split (bitAt s) (8 * i) (8 * k) 8) ∙ ap (field (bitAt s) (8 * i)) e
+
+-- zeros follow the last byte
+pub word-last : (s : List ℕ) (i k v : ℕ) → length s ≤ i + k → k ≤ 8 → v ≡ field (bitAt s) (8 * i) (8 * k) → v ≡ field (bitAt s) (8 * i) 64
+word-last s i k v h few e =
+    let m = 64 - 8 * k in
+    let d : 64 ≡ 8 * k + m = omega arith in
+    let none : field (bitAt s) (8 * i + 8 * k) m ≡ 0
+    = field-is (bitAt s) (8 * i + 8 * k) m 0 (λ j l. bitAt-past s (8 * i + 8 * k + j) (omega arith) ∙ sym (ap odd (zero-div (2 ^ j)))) (pow-pos m) in
+    e ∙ sym (ap (field (bitAt s) (8 * i)) d ∙ field-split (bitAt s) (8 * i) (8 * k) m ∙ ap (λ (x : ℕ). field (bitAt s) (8 * i) (8 * k) + 2 ^ (8 * k) * x) none ∙ omega arith)
 
 -- a field in the word
 pub word-field : (f : ℕ → Bool) (at width w : ℕ) → at % 8 + width < 64 → w ≡ field f (8 * (at / 8)) 64

@@ -79,6 +79,16 @@ putField-none s p v b =
     same n (yes h) = bitWith-below (bitAt s) p 0 v n h
     same n (no h) = bitWith-above (bitAt s) p 0 v n (omega arith)
 
+-- the bits above a field's do not count
+pub putField-same : (s : List ℕ) (p k v w : ℕ) → ((j : ℕ) → j < k → bit v j ≡ bit w j) → putField s p k v ≡ putField s p k w
+unfolding putField
+putField-same s p k v w e = bytesOf-ext (length s) (bitWith (bitAt s) p k v) (bitWith (bitAt s) p k w) (λ n h. go n (decLt n p) (decLt n (p + k)))
+  where
+    go : (n : ℕ) → Dec (n < p) → Dec (n < p + k) → bitWith (bitAt s) p k v n ≡ bitWith (bitAt s) p k w n
+    go n (yes a) b = bitWith-below (bitAt s) p k v n a ∙ sym (bitWith-below (bitAt s) p k w n a)
+    go n (no a) (yes b) = bitWith-in (bitAt s) p k v n (omega arith) b ∙ e (n - p) (omega arith) ∙ sym (bitWith-in (bitAt s) p k w n (omega arith) b)
+    go n (no a) (no b) = bitWith-above (bitAt s) p k v n (omega arith) ∙ sym (bitWith-above (bitAt s) p k w n (omega arith))
+
 -- a field with n bits more at its top
 module _ (s : List ℕ) (p k n v : ℕ) where
   abbrev part : ℕ → Bool

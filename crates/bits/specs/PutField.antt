@@ -1,10 +1,11 @@
 -- Bits put into bytes. Assumes nothing.
-use Prim.Native.Nat.{ℕ, _-_}
+use Prim.Native.Nat.{ℕ, _-_, _*_, _^_, _<_}
 use mathlib.Core.Bool.{Bool, cond}
 use mathlib.Core.List.{List}
 use lib.ListN.{length}
 use Rattle.standard.specs.Bits.{bit, bitAt, field, bytesOf}
 use Rattle.standard.specs.Cp.{put, covers}
+use Rattle.bits.specs.declared.Pouring.{Pouring}
 
 -- bit n of the bit string f, in which the k bits from bit p on are the lowest k bits of v, lowest first
 abbrev pub bitWith : (ℕ → Bool) → ℕ → ℕ → ℕ → ℕ → Bool
@@ -17,3 +18,12 @@ wordWith w p k v = field (bitWith (bit w) p k v) 0 64
 -- the bytes s with these bits in them
 unfoldable pub putField : List ℕ → ℕ → ℕ → ℕ → List ℕ
 putField s p k v = bytesOf (length s) (bitWith (bitAt s) p k v)
+
+-- fewer than 64 bits are held, as a number
+pub record Holds (p : Pouring) : Type 0 where
+  pub few : p .count < 64
+  pub small : p .held < 2 ^ (p .count)
+
+-- the bytes s with the bits that are held in them
+unfoldable pub poured : List ℕ → Pouring → List ℕ
+poured s p = putField s (8 * p .to) (p .count) (p .held)

@@ -1,9 +1,9 @@
 // Bits in byte buffers and in numbers: bit n of a buffer is in byte n / 8, with weight 2 ^ (n % 8), and fields have their lowest bit first.
 ghost use mathlib.Core.Path.{_≡_};
-ghost use Prim.Native.Nat.{_+_, _*_, _/_, _%_, _^_, _<_, _≤_};
+ghost use Prim.Native.Nat.{_+_, _-_, _*_, _/_, _%_, _^_, _<_, _≤_};
 ghost use lib.ListN.{length};
-ghost use Rattle.standard.specs.Bits.{weight, bit, bitAt, field};
-ghost use Rattle.bits.specs.PutField.{wordWith, putField};
+ghost use Rattle.standard.specs.Bits.{weight, bit, bitAt, field, bytesFor};
+ghost use Rattle.bits.specs.PutField.{wordWith, putField, Holds, poured};
 
 // Bit n of the bytes; 0 past their end.
 pub fn bit_at(bytes: &[u8], n: usize) -> bool
@@ -23,18 +23,48 @@ pub fn wide(byte: u8) -> u64
     byte as u64
 }
 
+// A number of k bytes with one byte more, on top.
+fn with_byte(word: u64, k: usize, byte: u8) -> u64
+    requires { ⌜ (k < 8) × (word < 2 ^ (8 * k)) ⌝ }
+    ensures { λ r. ⌜ (r ≡ byte * 2 ^ (8 * k) + word) × (byte < 256) ⌝ }
+{
+    word | (wide(byte) << (8 * k))
+}
+
+// The k bytes from byte i on, as a number.
+fn bytes_at(bytes: &[u8], i: usize, k: usize) -> u64
+    requires { ⌜ (k ≤ 8) × (i + k ≤ length (now bytes)) ⌝ }
+    ensures { λ r. ⌜ r ≡ field (bitAt (now (bytes .entry))) (8 * i) (8 * k) ⌝ }
+{
+    let mut word: u64 = 0;
+    let mut j = 0;
+    while j < k {
+        word = with_byte(word, j, bytes[i + j]);
+        j += 1;
+    }
+    word
+}
+
 // The eight bytes from byte i on, as a number.
 pub fn word_at(bytes: &[u8], i: usize) -> u64
     requires { ⌜ i + 8 ≤ length (now bytes) ⌝ }
     ensures { λ r. ⌜ r ≡ field (bitAt (now (bytes .entry))) (8 * i) 64 ⌝ }
 {
-    let mut word: u64 = 0;
-    let mut k = 0;
-    while k < 8 {
-        word = word | (wide(bytes[i + k]) << (8 * k));
-        k += 1;
+    bytes_at(bytes, i, 8)
+}
+
+// The eight bytes from byte i on, as a number; zeros follow the last byte.
+fn word_from(bytes: &[u8], i: usize) -> u64
+    requires { ⌜ i ≤ 2 ^ 32 ⌝ }
+    ensures { λ r. ⌜ r ≡ field (bitAt (now (bytes .entry))) (8 * i) 64 ⌝ }
+{
+    if i + 8 <= bytes.len() {
+        return word_at(bytes, i);
     }
-    word
+    if bytes.len() < i {
+        return 0;
+    }
+    bytes_at(bytes, i, bytes.len() - i)
 }
 
 // The number in the `width` bits from bit `at` on, bit by bit.
@@ -59,10 +89,10 @@ pub fn field_at(bytes: &[u8], at: usize, width: usize) -> u64
 {
     let first = at / 8;
     let shift = at % 8;
-    if (bytes.len() < first + 8) | (63 < shift + width) {
+    if 63 < shift + width {
         return field_by_bits(bytes, at, width);
     }
-    (word_at(bytes, first) >> shift) % (1u64 << width)
+    (word_from(bytes, first) >> shift) % (1u64 << width)
 }
 
 // The word with the lowest bits of `value` in place of its `width` bits from bit `shift` on.
@@ -89,16 +119,24 @@ fn put_byte(bytes: &mut [u8], i: usize, word: u64)
     bytes[i] = low_byte(word);
 }
 
+// Puts the k lowest bytes of a number into those from byte i on.
+fn put_bytes(bytes: &mut [u8], i: usize, k: usize, word: u64)
+    requires { ⌜ (k ≤ 8) × (i + k ≤ length (now bytes)) ⌝ }
+    ensures { λ r. ⌜ now (bytes .exit) ≡ putField (now (bytes .entry)) (8 * i) (8 * k) word ⌝ }
+{
+    let mut j = 0;
+    while j < k {
+        put_byte(bytes, i + j, word >> (8 * j));
+        j += 1;
+    }
+}
+
 // Puts the eight bytes of a number into those from byte i on.
-fn put_word(bytes: &mut [u8], i: usize, word: u64)
+pub fn put_word(bytes: &mut [u8], i: usize, word: u64)
     requires { ⌜ i + 8 ≤ length (now bytes) ⌝ }
     ensures { λ r. ⌜ now (bytes .exit) ≡ putField (now (bytes .entry)) (8 * i) 64 word ⌝ }
 {
-    let mut k = 0;
-    while k < 8 {
-        put_byte(bytes, i + k, word >> (8 * k));
-        k += 1;
-    }
+    put_bytes(bytes, i, 8, word);
 }
 
 // Puts the lowest bit of `value` into bit n; all other bits stay.
@@ -136,6 +174,53 @@ pub fn put_field(bytes: &mut [u8], at: usize, width: usize, value: u64)
     }
     let word = word_at(bytes, first);
     put_word(bytes, first, word_with(word, shift, width, value));
+}
+
+// Bits poured into bytes, the earliest first: `count` of them, fewer than 64, are held until they fill the eight bytes
+// from byte `to` on.
+pub struct Pouring {
+    pub to: usize,
+    pub count: usize,
+    pub held: u64,
+}
+
+// The bits held with those of `value` above them, as far as they go into a word.
+fn joined_word(held: u64, count: usize, value: u64) -> u64
+    requires { ⌜ (count < 64) × (held < 2 ^ count) ⌝ }
+    ensures { λ r. ⌜ r ≡ (value * 2 ^ count + held) % 2 ^ 64 ⌝ }
+{
+    held | (value << count)
+}
+
+// Pours the `width` bits of `value`.
+pub fn pour(bytes: &mut [u8], p: Pouring, width: usize, value: u64) -> Pouring
+    requires { ⌜ Holds p × (width < 64) × (value < 2 ^ width) × (8 * p .to + p .count + width ≤ 8 * length (now bytes)) ⌝ }
+    ensures { λ x. ⌜ Holds x × (8 * x .to + x .count ≡ 8 * p .to + p .count + width)
+        × (poured (now (bytes .exit)) x ≡ putField (poured (now (bytes .entry)) p) (8 * p .to + p .count) width value) ⌝ }
+{
+    let count = p.count + width;
+    let word = joined_word(p.held, p.count, value);
+    if count < 64 {
+        return Pouring {
+            to: p.to,
+            count: count,
+            held: word,
+        };
+    }
+    put_word(bytes, p.to, word);
+    Pouring {
+        to: p.to + 8,
+        count: count - 64,
+        held: value >> (64 - p.count),
+    }
+}
+
+// Puts the bits that are held, and zeros into the rest of the last byte.
+pub fn pour_out(bytes: &mut [u8], p: Pouring)
+    requires { ⌜ Holds p × (p .to + bytesFor (p .count) ≤ length (now bytes)) ⌝ }
+    ensures { λ x. ⌜ now (bytes .exit) ≡ putField (poured (now (bytes .entry)) p) (8 * p .to + p .count) (8 * bytesFor (p .count) - p .count) 0 ⌝ }
+{
+    put_bytes(bytes, p.to, (p.count + 7) / 8, p.held);
 }
 
 // Bit n of a number.

@@ -9,7 +9,7 @@ use native.Mathlib.Omega.{arith}
 use borrow.Rule.Slice.PartMut.{putMid}
 use lib.ListN.{length, getD, take, drop, set, length-append, length-drop, length-set, List·getD-append, List·getD-eq-default}
 use lib.Seq.{drop-cons, set-at, append-snoc, getD-append-add, length-take-le}
-use Rattle.standard.specs.Lists.{parts, joined, each, after}
+use Rattle.standard.specs.Lists.{listFrom, parts, joined, each, after}
 use Rattle.standard.specs.Bits.{odd, bit, bitAt, bitsIn, field, bytesFor, bytesOf, nth, numberOf, bitsOf}
 use Rattle.standard.specs.Record.{D}
 use Rattle.standard.specs.Frame.{dataBits, sendFrame, sendNext, receiveFrame, receiveNext, mark, sendFrames, sendAfter, receiveFrames, receiveMarks, receiveAfter}
@@ -17,13 +17,14 @@ use Rattle.standard.specs.Calls.{over}
 use Rattle.standard.specs.declared.Law.{Law}
 use Rattle.standard.specs.declared.LineState.{LineState}
 use Rattle.standard.specs.declared.Record.{Record}
-use Rattle.standard.proofs.Bits.{numberOf-at}
-use Rattle.standard.proofs.Scrambler.{pushAll-lt}
-use Rattle.standard.proofs.Frame.{length-sendFrames, length-receiveFrames, length-receiveMarks, sendFrames-next, sendAfter-next, receiveFrames-next, receiveAfter-next, receiveMarks-next}
+use Rattle.standard.proofs.Bits.{numberOf-at, numberOf-lt}
+use Rattle.standard.proofs.Frame.{length-sendFrames, length-receiveFrame, length-receiveFrames, length-receiveMarks, sendFrames-next, sendAfter-next, receiveFrames-next, receiveAfter-next, receiveMarks-next}
 use Rattle.bits.specs.PutField.{putField}
 use Rattle.bits.proofs.PutField.{length-putField}
 use Rattle.mapping.specs.declared.Mapping.{Mapping}
 use Rattle.mapping.specs.Tables.{pointTables, labelTables}
+use Rattle.frame.specs.declared.Carried.{Carried}
+use Rattle.frame.specs.Reciprocals.{reciprocalOf}
 use Rattle.frame.specs.Parts.{Sendable, Receivable}
 use Rattle.codec.specs.Buffers.{bitsOver}
 use Rattle.codec.specs.Loops.{Drawn, Sending, Receiving}
@@ -31,22 +32,18 @@ use Rattle.codec.proofs.Buffers.{frame-bits, frame-octets, front-more, 
 
 -- ---- sending
 
-send-low : (st : LineState) (ds : List Bool) → st .history < 2 ^ 23 → sendNext st ds .history < 2 ^ 23
-unfolding sendNext
-send-low st ds h = pushAll-lt (st .history) _ h
-
 module _ (r : Record) (l : Law) (N : ℕ) (st : LineState) (bytes os₀ : List ℕ) where
   abbrev ds : List Bool
   ds = bitsIn (dataBits r N) bytes
 
-  pub send-start : st .history < 2 ^ 23 → Sending r l N st ds os₀ 0 st os₀
+  pub send-start : Sending r l N st ds os₀ 0 st os₀
   unfolding sendFrames sendAfter parts joined each after
-  send-start h = record { done = omega arith; low = h; left = refl; long = refl; octets = refl }
+  send-start = record { done = omega arith; left = refl; long = refl; octets = refl }
 
-  pub sendable : (n width : ℕ) (m : Mapping) (ps : List (List ℕ)) (state : LineState) (os : List ℕ) → Drawn pointTables r st N width m ps → Sending r l N st ds os₀ n state os → n < N
-      → Sendable r m ps state
-  sendable n width m ps state os d p h =
-      record { rate = d .allowed .rate; mapped = d .mapped; points = d .tabled; holds = d .allowed .holds (omega arith); history = p .low }
+  pub sendable : (n width : ℕ) (m : Mapping) (vs : List ℕ) (ps : List (List ℕ)) (x : Carried) → Drawn pointTables r st N width m ps → n < N
+      → vs ≡ listFrom (reciprocalOf (m .sizes)) 0 6 → x .past < 2 ^ 23 → Sendable r m vs ps x
+  sendable n width m vs ps x d h ev low =
+      record { rate = d .allowed .rate; mapped = d .mapped; inverse = ev; points = d .tabled; holds = d .allowed .holds (omega arith); past = low }
 
   pub send-more : (n word : ℕ) (state next : LineState) (os six : List ℕ) → Sending r l N st ds os₀ n state os → n < N → 6 * N ≤ length os₀
       → word ≡ field (bitAt bytes) (n * D r) (D r) → next ≡ sendNext state (bitsOf (D r) word) → six ≡ sendFrame r l state (bitsOf (D r) word)
@@ -63,7 +60,6 @@ module _ (r : Record) (l : Law) (N : ℕ) (st : LineState) (bytes os₀ : List �
       ∙ ap (λ (x : List ℕ). x ++ drop (6 * (n + 1)) os₀) (sym (sendFrames-next r l n st ds)) in
       record {
         done = omega arith;
-        low = rw en (send-low state (bitsOf (D r) word) (p .low));
         left = en ∙ ap₂ sendNext (p .left) bits ∙ sym (sendAfter-next r l n st ds);
         long = ap length is ∙ length-append (sendFrames r l (n + 1) st ds) (drop (6 * (n + 1)) os₀) ∙ omega (arith, length-sendFrames r l (n + 1) st ds, length-drop (6 * (n + 1)) os₀);
         octets = is;
@@ -77,10 +73,6 @@ module _ (r : Record) (l : Law) (N : ℕ) (st : LineState) (bytes os₀ : List �
       (p .left ∙ ap (λ (k : ℕ). sendAfter r k st ds) e, p .octets ∙ ap₂ (λ (k i : ℕ). sendFrames r l k st ds ++ drop i os₀) e z)
 
 -- ---- receiving
-
-receive-low : (r : Record) (l : Law) (st : LineState) (os : List ℕ) → st .history < 2 ^ 23 → receiveNext r l st os .history < 2 ^ 23
-unfolding receiveNext
-receive-low r l st os h = pushAll-lt (st .history) _ h
 
 -- the bits of a list and of a list after it
 nth-left : (xs ys : List Bool) (p : ℕ) → p < length xs → nth xs p ≡ nth (xs ++ ys) p
@@ -101,12 +93,11 @@ module _ (r : Record) (l : Law) (N : ℕ) (st : LineState) (line bs₀ ms₀ : L
   abbrev os : List ℕ
   os = take (6 * N) line
 
-  pub receive-start : st .history < 2 ^ 23 → ((i : ℕ) → getD bs₀ i 0 < 256) → Receiving r l N st os bs₀ ms₀ 0 st bs₀ ms₀
+  pub receive-start : ((i : ℕ) → getD bs₀ i 0 < 256) → Receiving r l N st os bs₀ ms₀ 0 st bs₀ ms₀
   unfolding receiveFrames receiveAfter receiveMarks parts joined each after
-  receive-start h b =
+  receive-start b =
       record {
         done = omega arith;
-        low = h;
         left = refl;
         longBits = refl;
         bits = rw zero-mul (bitsOver-none (nth []) bs₀ b);
@@ -114,16 +105,15 @@ module _ (r : Record) (l : Law) (N : ℕ) (st : LineState) (line bs₀ ms₀ : L
         marks = refl;
       }
 
-  pub receivable : (n width : ℕ) (m : Mapping) (ls : List (List ℕ)) (state : LineState) (bs ms : List ℕ) → Drawn labelTables r st N width m ls → Receiving r l N st os bs₀ ms₀ n state bs ms
-      → Receivable r m ls state
-  receivable n width m ls state bs ms d p = record { rate = d .allowed .rate; mapped = d .mapped; labels = d .tabled; history = p .low }
+  pub receivable : (width : ℕ) (m : Mapping) (ls : List (List ℕ)) (x : Carried) → Drawn labelTables r st N width m ls → x .past < 2 ^ 23 → Receivable r m ls x
+  receivable width m ls x d low = record { rate = d .allowed .rate; mapped = d .mapped; labels = d .tabled; past = low }
 
-  pub receive-more : (n m word width : ℕ) (state next : LineState) (bs bs′ ms part : List ℕ) → Receiving r l N st os bs₀ ms₀ n state bs ms → n < N → 6 * N ≤ length line → N ≤ length ms₀
+  pub receive-more : (n m word width place : ℕ) (state next : LineState) (bs bs′ ms part : List ℕ) → Receiving r l N st os bs₀ ms₀ n state bs ms → n < N → 6 * N ≤ length line → N ≤ length ms₀
       → part ≡ take (6 * n + 6 - 6 * n) (drop (6 * n) line) → m ≡ mark r l part → next ≡ receiveNext r l state part → word ≡ numberOf (receiveFrame r l state part)
-      → width ≡ D r → bs′ ≡ putField bs (n * width) width word → Receiving r l N st os bs₀ ms₀ (n + 1) next bs′ (set ms n m)
-  receive-more n m word width state next bs bs′ ms part p h room marked ep em en ew ed eb =
+      → width ≡ D r → place ≡ n * width → bs′ ≡ putField bs place width word → Receiving r l N st os bs₀ ms₀ (n + 1) next bs′ (set ms n m)
+  receive-more n m word width place state next bs bs′ ms part p h room marked ep em en ew ed el eb =
       let six-wide : 6 * n + 6 - 6 * n ≡ 6 = omega arith in
-      let put : bs′ ≡ putField bs (n * D r) (D r) word = eb ∙ ap (λ (w : ℕ). putField bs (n * w) w word) ed in
+      let put : bs′ ≡ putField bs (n * D r) (D r) word = eb ∙ ap (λ (i : ℕ). putField bs i width word) el ∙ ap (λ (w : ℕ). putField bs (n * w) w word) ed in
       let six : part ≡ take 6 (drop (n * 6) os) = ep ∙ ap (λ (k : ℕ). take k (drop (6 * n) line)) six-wide ∙ frame-octets line n N h room in
       let given : List Bool = receiveFrames r l n st os in
       let whole : given ++ receiveFrame r l state part ≡ receiveFrames r l (n + 1) st os =
@@ -132,7 +122,6 @@ module _ (r : Record) (l : Law) (N : ℕ) (st : LineState) (line bs₀ ms₀ : L
       let e : n * D r + D r ≡ dataBits r (n + 1) = sym (ap (λ (k : ℕ). k * D r) (add-one n) ∙ suc-mul n (D r) ∙ omega arith) in
       record {
         done = omega arith;
-        low = rw en (receive-low r l state part (p .low));
         left = en ∙ ap₂ (receiveNext r l) (p .left) six ∙ sym (receiveAfter-next r l n st os);
         longBits = ap length put ∙ length-putField bs (n * D r) (D r) word ∙ p .longBits;
         bits =
@@ -151,16 +140,15 @@ module _ (r : Record) (l : Law) (N : ℕ) (st : LineState) (line bs₀ ms₀ : L
       }
 
   -- the rest of the last byte is zeroed at the end
-  pub receive-all : (n width needed : ℕ) (state : LineState) (bs bs′ ms : List ℕ) → Receiving r l N st os bs₀ ms₀ n state bs ms → N ≤ n
+  pub receive-all : (n width : ℕ) (state : LineState) (bs bs′ ms : List ℕ) → Receiving r l N st os bs₀ ms₀ n state bs ms → N ≤ n
       → ((i : ℕ) → getD bs₀ i 0 < 256) → bytesFor (dataBits r N) ≤ length bs₀
-      → width ≡ D r → needed ≡ bytesFor (N * width) → bs′ ≡ putField bs (N * width) (8 * needed - N * width) 0
+      → width ≡ D r → bs′ ≡ putField bs (N * width) (8 * bytesFor (N * width) - N * width) 0
       → (state ≡ receiveAfter r l N st os)
       × (bs′ ≡ over (bytesOf (bytesFor (dataBits r N)) (nth (receiveFrames r l N st os))) bs₀)
       × (ms ≡ over (receiveMarks r l N os) ms₀)
   unfolding nth
-  receive-all n width needed state bs bs′ ms p h b room ed en eb =
-      let put : bs′ ≡ putField bs (dataBits r N) (8 * bytesFor (dataBits r N) - dataBits r N) 0 =
-      eb ∙ ap (λ (k : ℕ). putField bs (N * width) (8 * k - N * width) 0) en ∙ ap (λ (w : ℕ). putField bs (N * w) (8 * bytesFor (N * w) - N * w) 0) ed in
+  receive-all n width state bs bs′ ms p h b room ed eb =
+      let put : bs′ ≡ putField bs (dataBits r N) (8 * bytesFor (dataBits r N) - dataBits r N) 0 = eb ∙ ap (λ (w : ℕ). putField bs (N * w) (8 * bytesFor (N * w) - N * w) 0) ed in
       let e : n ≡ N = omega (arith, p .done) in
       let given : List Bool = receiveFrames r l N st os in
       let glong : length given ≡ N * D r = length-receiveFrames r l N st os in
@@ -192,9 +180,8 @@ six-long xs n frames h l = let e : 6 * n + 6 - 6 * n ≡ 6 = omega arith in rw e
 pub bits-room : (r : Record) (n frames width len : ℕ) → n < frames → width ≡ D r → bytesFor (dataBits r frames) ≤ len → n * width + width ≤ 8 * len
 bits-room r n frames width len h e room = omega (arith, mul-le-mul-right width h, ap (λ (w : ℕ). frames * w) e)
 
--- and for the rest of the last byte
-pub rest-room : (r : Record) (frames width needed len : ℕ) → width ≡ D r → needed ≡ bytesFor (frames * width) → bytesFor (dataBits r frames) ≤ len
-    → (8 * needed - frames * width ≤ 64) × (frames * width + (8 * needed - frames * width) ≤ 8 * len)
-rest-room r frames width needed len e en room =
-    let same : frames * width ≡ dataBits r frames = ap (λ (w : ℕ). frames * w) e in
-    (omega arith, omega arith)
+-- a frame's data bits as a number
+pub word-fits : (r : Record) (l : Law) (st : LineState) (os : List ℕ) (word width : ℕ) → word ≡ numberOf (receiveFrame r l st os) → width ≡ D r → word < 2 ^ width
+word-fits r l st os word width e d =
+    let long : length (receiveFrame r l st os) ≡ width = length-receiveFrame r l st os ∙ sym d in
+    rw (e, ← long) (numberOf-lt (receiveFrame r l st os))

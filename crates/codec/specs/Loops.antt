@@ -1,6 +1,6 @@
 -- What holds after n of the N frames of a call. Assumes nothing.
 use mathlib.Core.Path.{_≡_}
-use Prim.Native.Nat.{ℕ, _*_, _^_, _≤_, _<_}
+use Prim.Native.Nat.{ℕ, _*_, _≤_}
 use mathlib.Core.Bool.{Bool}
 use mathlib.Core.List.{List, _++_}
 use lib.ListN.{length, drop}
@@ -25,15 +25,13 @@ pub record Drawn (tables : Record → List (List ℕ)) (r : Record) (st : LineSt
 -- the data bits ds sent from the state st, into the octets os₀
 pub record Sending (r : Record) (l : Law) (N : ℕ) (st : LineState) (ds : List Bool) (os₀ : List ℕ) (n : ℕ) (state : LineState) (os : List ℕ) : Type 0 where
   pub done : n ≤ N
-  pub low : state .history < 2 ^ 23
   pub left : state ≡ sendAfter r n st ds
   pub long : length os ≡ length os₀
   pub octets : os ≡ sendFrames r l n st ds ++ drop (6 * n) os₀
 
--- the octets os received from the state st, into the data bytes bs₀ and the marks ms₀
+-- the octets os received from the state st, into the data bytes bs₀ and the marks ms₀; bs are the bytes with the bits that are held
 pub record Receiving (r : Record) (l : Law) (N : ℕ) (st : LineState) (os bs₀ ms₀ : List ℕ) (n : ℕ) (state : LineState) (bs ms : List ℕ) : Type 0 where
   pub done : n ≤ N
-  pub low : state .history < 2 ^ 23
   pub left : state ≡ receiveAfter r l n st os
   pub longBits : length bs ≡ length bs₀
   pub bits : bs ≡ bitsOver (dataBits r n) (nth (receiveFrames r l n st os)) bs₀

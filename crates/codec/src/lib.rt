@@ -1,4 +1,6 @@
 // The frame sender and the frame receiver.
+use bits::Pouring;
+use frame::modulus::reciprocals_of;
 use standard::FramesDone;
 use standard::Law;
 use standard::LineState;
@@ -121,17 +123,27 @@ fn send_frames(
     let mut points = [[0u8; 128]; 6];
     let mut labels = [[0u8; 128]; 6];
     let mapping = mapping::draw_up(r, &mut points, &mut labels);
+    let sizes = mapping.sizes;
+    let inverses = reciprocals_of(sizes);
     let width = frame_width(r);
-    let mut left = state;
+    let mut line = frame::carry(state);
     let mut n = 0;
     while n < frames {
         let bits = bits::field_at(bytes, n * width, width);
         let at = 6 * n;
         let end = at + 6;
-        left = frame::send_frame(law, mapping, &points, left, bits, &mut octets[at..end]);
+        line = frame::send_frame(
+            law,
+            mapping,
+            inverses,
+            &points,
+            line,
+            bits,
+            &mut octets[at..end],
+        );
         n += 1;
     }
-    left
+    frame::state_of(line)
 }
 
 // Receives so many frames: frame n is the six octets from place 6 * n on, and gives mark n and the data bits from bit n * D on.
@@ -153,20 +165,24 @@ fn receive_frames(
     let mut labels = [[0u8; 128]; 6];
     let mapping = mapping::draw_up(r, &mut points, &mut labels);
     let width = frame_width(r);
-    let mut left = state;
+    let mut line = frame::carry(state);
+    let mut pouring = Pouring {
+        to: 0,
+        count: 0,
+        held: 0,
+    };
     let mut n = 0;
     while n < frames {
         let at = 6 * n;
         let end = at + 6;
-        let got = frame::receive_frame(law, mapping, &labels, left, &octets[at..end]);
-        bits::put_field(bytes, n * width, width, got.bits);
+        let got = frame::receive_frame(law, mapping, &labels, line, &octets[at..end]);
+        pouring = bits::pour(bytes, pouring, width, got.bits);
         marks[n] = got.mark;
-        left = got.state;
+        line = got.line;
         n += 1;
     }
-    let used = frames * width;
-    bits::put_field(bytes, used, 8 * data_bytes(width, frames) - used, 0);
-    left
+    bits::pour_out(bytes, pouring);
+    frame::state_of(line)
 }
 
 // The entry: turns frames * D data bits into 6 * frames octets. Refusals 4, 9, 10, 25 and 11 to 17, the first that applies.

@@ -1,5 +1,5 @@
 pub mod Stream
-pub mod Turns
+pub mod SixSigns
 pub mod Division
 pub mod Sending
 pub mod Receiving

@@ -33,7 +33,10 @@ use Rattle.standard.proofs.Words.{one-shifted, above-six, number-append, bits-n
 use Rattle.mapping.specs.declared.Mapping.{Mapping}
 use Rattle.mapping.specs.Tables.{mappingOf, labelOrNone, labelTables}
 use Rattle.mapping.proofs.Tables.{width-le, label-in, none-outside, label-inside}
-use Rattle.frame.specs.Parts.{labelIn, noneTest}
+use Rattle.frame.specs.declared.Carried.{Carried}
+use Rattle.frame.specs.Past.{turned}
+use Rattle.frame.specs.Parts.{stateOf, labelIn, noneTest}
+use Rattle.frame.proofs.Stream.{turned-lt, from-past}
 
 -- ---- the number of six labels, from label 5 down to label 0
 
@@ -132,19 +135,24 @@ module _ (r : Record) (l : Law) (os : List ℕ) where
   unfolding first
   mark-good e h = passed e ∙ rw (lt-leb (2 ^ K r) (receivedNumber r l os) h)
 
-  module _ (st : LineState) where
+  -- received in the carried state x
+  module _ (x : Carried) where
+    abbrev st : LineState
+    st = stateOf x
+
     -- ---- a marked frame
 
     module _ (h : 0 < mark r l os) where
       bad : good r l os ≡ false
       bad = ne-eqb (mark r l os) 0 (λ (e : mark r l os ≡ 0). omega arith)
 
-      pub marked-next : (m : Mapping) → m ≡ mappingOf r → (x : LineState) → x .history ≡ pushAll (st .history) (replicate (m .k + 6) false) → x .sign ≡ signAt os 5
-          → x ≡ receiveNext r l st os
+      pub marked-next : (m : Mapping) → m ≡ mappingOf r → (y : Carried) → y .past ≡ turned (pushAll (st .history) (replicate (m .k + 6) false)) → y .sign ≡ signAt os 5
+          → stateOf y ≡ receiveNext r l st os
       unfolding receiveNext heardBits
-      marked-next m em x eh es =
-          let zeros = ap (λ (y : Mapping). pushAll (st .history) (replicate (y .k + 6) false)) em in
-          rw bad (ap₂ (λ (h : ℕ) (s : Bool). record { history = h; sign = s }) (eh ∙ zeros) es)
+      marked-next m em y ep es =
+          let pushed = from-past (st .history) (y .past) (replicate (m .k + 6) false) (turned-lt (x .past)) ep in
+          let zeros = ap (λ (z : Mapping). pushAll (st .history) (replicate (z .k + 6) false)) em in
+          rw bad (ap₂ (λ (h : ℕ) (s : Bool). record { history = h; sign = s }) (pushed ∙ zeros) es)
 
       pub marked-number : 0 ≡ numberOf (receiveFrame r l st os)
       unfolding receiveFrame
@@ -182,7 +190,7 @@ module _ (r : Record) (l : Law) (os : List ℕ) where
       unfolding receiveFrame
       heard-data = rw fine
 
-      pub heard-next : (h : ℕ) (s : Bool) → h ≡ pushAll (st .history) (heardBits r l (st .sign) os) → s ≡ signAt os 5
-          → record { history = h; sign = s } ≡ receiveNext r l st os
+      pub heard-next : (y : Carried) → y .past ≡ turned (pushAll (st .history) (heardBits r l (st .sign) os)) → y .sign ≡ signAt os 5 → stateOf y ≡ receiveNext r l st os
       unfolding receiveNext
-      heard-next h s eh es = ap₂ (λ (x : ℕ) (y : Bool). record { history = x; sign = y }) eh es
+      heard-next y ep es =
+          ap₂ (λ (h : ℕ) (s : Bool). record { history = h; sign = s }) (from-past (st .history) (y .past) (heardBits r l (st .sign) os) (turned-lt (x .past)) ep) es

@@ -29,14 +29,20 @@ use Rattle.standard.proofs.Words.{number-bit, number-take, number-drop}
 use Rattle.mapping.specs.declared.Mapping.{Mapping}
 use Rattle.mapping.specs.Tables.{mappingOf}
 use Rattle.mapping.proofs.Tables.{size-le, point-in}
-use Rattle.frame.specs.Parts.{Sendable, octetIn}
+use Rattle.frame.specs.declared.Carried.{Carried}
+use Rattle.frame.specs.Past.{Scrambled}
+use Rattle.frame.specs.Parts.{stateOf, Sendable, octetIn}
+use Rattle.frame.proofs.Stream.{turned-lt, from-past}
 
 number-lt : (k : ℕ) (ss : List Bool) → length ss ≡ k + 6 → numberOf (drop 6 ss) < 2 ^ k
 number-lt k ss e = let six : length (drop 6 ss) ≡ k = omega (arith, length-drop 6 ss) in rw (← six) (numberOf-lt (drop 6 ss))
 
--- a frame of the D lowest bits of a word, sent from the state st; w is the number of its bits on the line
-module _ (r : Record) (l : Law) (m : Mapping) (ps : List (List ℕ)) (st : LineState) (s : Sendable r m ps st) (word w : ℕ)
-    (ew : w ≡ numberOf (scramble (st .history) (bitsOf (m .k + 6) word))) where
+-- a frame of the D lowest bits of a word, sent from the carried state x; w is the number of its bits on the line
+module _ (r : Record) (l : Law) (m : Mapping) (vs : List ℕ) (ps : List (List ℕ)) (x : Carried) (s : Sendable r m vs ps x) (word w q : ℕ)
+    (sent : Scrambled (x .past) word (m .k + 6) w q) where
+  abbrev st : LineState
+  st = stateOf x
+
   abbrev ds : List Bool
   ds = bitsOf (D r) word
 
@@ -44,10 +50,10 @@ module _ (r : Record) (l : Law) (m : Mapping) (ps : List (List ℕ)) (st : LineS
   ss = scramble (st .history) ds
 
   same-bits : scramble (st .history) (bitsOf (m .k + 6) word) ≡ ss
-  same-bits = ap (λ (x : Mapping). scramble (st .history) (bitsOf (x .k + 6) word)) (s .mapped)
+  same-bits = ap (λ (y : Mapping). scramble (st .history) (bitsOf (y .k + 6) word)) (s .mapped)
 
   line : w ≡ numberOf ss
-  line = ew ∙ ap numberOf same-bits
+  line = sent .out ∙ ap numberOf same-bits
 
   long : length ss ≡ D r
   long = length-scramble (st .history) ds ∙ length-bitsOf (D r) word
@@ -92,8 +98,8 @@ module _ (r : Record) (l : Law) (m : Mapping) (ps : List (List ℕ)) (st : LineS
           ∙ listFrom-ext (octetIn l ps cs n) (λ i. octet l (nth (frameSigns (st .sign) ss) i) (point r i (getD (frameLabels r ss) i 0))) 6
           (λ i h. ap₂ (octet l) (sign-is i h) (ucode-is i h))
 
-      pub sent-state : (h : ℕ) (t : Bool) → h ≡ pushAll (st .history) (scramble (st .history) (bitsOf (m .k + 6) word)) → t ≡ bit n 5
-          → record { history = h; sign = t } ≡ sendNext st ds
+      pub sent-state : (t : Bool) → t ≡ bit n 5 → stateOf (record { past = q; sign = t }) ≡ sendNext st ds
       unfolding sendNext lineBits
-      sent-state h t eh et =
-          ap₂ (λ (x : ℕ) (y : Bool). record { history = x; sign = y }) (eh ∙ ap (pushAll (st .history)) same-bits) (et ∙ sign-is 5 (omega arith))
+      sent-state t et =
+          let pushed = from-past (st .history) q (scramble (st .history) (bitsOf (m .k + 6) word)) (turned-lt (x .past)) (sent .left) in
+          ap₂ (λ (y : ℕ) (z : Bool). record { history = y; sign = z }) (pushed ∙ ap (pushAll (st .history)) same-bits) (et ∙ sign-is 5 (omega arith))

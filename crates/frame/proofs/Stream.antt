@@ -8,10 +8,10 @@ use native.Mathlib.Numerals.{one-add}
 use native.Mathlib.Omega.{arith}
 use lib.Bits.{bitOr, bitXor, xor-shr, or-shifted-r}
 use lib.ListN.{length}
-use lib.Pow.{pow-pos, shl-exact, shr-shr, mod-pow-add, mod-mod-pow, field as pow-field}
+use lib.Pow.{pow-pos, shl-exact, shr-shr, mod-pow-add, mod-mod-pow, field as pow-field, high as pow-high, low as pow-low}
 use Rattle.standard.specs.Bits.{_⊕_, weight, positive, odd, bit, field, numberOf, bitsOf}
 use Rattle.standard.specs.Scrambler.{taps, push, pushAll, scramble, descramble}
-use Rattle.standard.proofs.Bits.{xor-cancel, weight-lt, odd-weight, weight-odd, bit-suc, field-lt, field-bit, field-ext, field-is, numberOf-lt, length-bitsOf, field-split}
+use Rattle.standard.proofs.Bits.{xor-cancel, weight-lt, odd-weight, weight-odd, bit-suc, field-lt, field-bit, field-ext, field-is, numberOf-lt, length-bitsOf, bits-back, field-split}
 use Rattle.standard.proofs.Scrambler.{length-scramble, scramble-append, pushAll-append, pushAll-lt}
 use Rattle.standard.proofs.Words.{number-append, bits-number}
 use Rattle.bits.proofs.Bits.{low-bit, down-bit, xor-bit}
@@ -20,7 +20,7 @@ use Rattle.frame.specs.Past.{inTime, turned, Scrambled}
 -- ---- bits of numbers, as lists
 
 -- numbers with the same bits below k
-bits-ext : (k x y : ℕ) → ((j : ℕ) → j < k → bit x j ≡ bit y j) → bitsOf k x ≡ bitsOf k y
+pub bits-ext : (k x y : ℕ) → ((j : ℕ) → j < k → bit x j ≡ bit y j) → bitsOf k x ≡ bitsOf k y
 unfolding bitsOf
 bits-ext zero x y h = refl
 bits-ext (suc k) x y h =
@@ -48,7 +48,7 @@ unfolding turned
 turned-lt h = field-lt (inTime h) 0 23
 
 -- turned twice it is the history
-turned-back : (h : ℕ) → h < 2 ^ 23 → turned (turned h) ≡ h
+pub turned-back : (h : ℕ) → h < 2 ^ 23 → turned (turned h) ≡ h
 unfolding turned
 turned-back h l =
     field-is (inTime (turned h)) 0 23 h
@@ -152,6 +152,12 @@ scramble-mix n h d few =
 
 -- ---- as code makes them
 
+-- 23 bits of a word
+in-word : (x n : ℕ) → n ≤ 41 → x % 2 ^ 64 / 2 ^ n % 2 ^ 23 ≡ x / 2 ^ n % 2 ^ 23
+in-word x n few =
+    let e : 64 ≡ 41 - n + 23 + n = omega arith in
+    ap (λ (k : ℕ). x % 2 ^ k / 2 ^ n % 2 ^ 23) e ∙ ap (λ (y : ℕ). y % 2 ^ 23) (pow-field x (41 - n + 23) n) ∙ mod-mod-pow (x / 2 ^ n) (41 - n) 23
+
 module _ (p w : ℕ) (low : p < 2 ^ 23) where
   abbrev all : ℕ
   all = bitOr p (w * 2 ^ 23 % 2 ^ 64)
@@ -176,21 +182,25 @@ module _ (p w : ℕ) (low : p < 2 ^ 23) where
       low-bit n v j l ∙ mix-bit w all j ∙ ap (λ (b : Bool). bit w j ⊕ b) (ap₂ _⊕_ (at (5 + j) (omega arith)) (at j (omega arith)))
       ∙ sym (mix-bit w a j)) ∙ sym (descramble-mix n (turned p) w))
 
-  -- the past after n bits, where they are in the 64
-  pub after-short : (n : ℕ) → n ≤ 41 → all / 2 ^ n % 2 ^ 23 ≡ turned (pushAll (turned p) (bitsOf n w))
-  after-short n few =
+  -- the past after n bits of the 64
+  pub after-some : (n : ℕ) → n ≤ 41 → all / 2 ^ n % 2 ^ 23 ≡ turned (pushAll (turned p) (bitsOf n w))
+  after-some n few =
       let a = stream (turned p) w in
-      let e : 64 ≡ 41 - n + 23 + n = omega arith in
-      ap (λ (x : ℕ). x / 2 ^ n % 2 ^ 23) (all-is ∙ ap (λ (k : ℕ). a % 2 ^ k) e) ∙ ap (λ (x : ℕ). x % 2 ^ 23) (pow-field a (41 - n + 23) n)
-      ∙ mod-mod-pow (a / 2 ^ n) (41 - n) 23 ∙ sym (turned-after n (turned p) w)
+      ap (λ (x : ℕ). x / 2 ^ n % 2 ^ 23) all-is ∙ in-word a n few ∙ sym (turned-after n (turned p) w)
 
-  -- and where the past before them is gone
-  pub after-long : (n : ℕ) → 23 ≤ n → w / 2 ^ (n - 23) % 2 ^ 23 ≡ turned (pushAll (turned p) (bitsOf n w))
-  after-long n many =
-      let e : 23 + (n - 23) ≡ n = omega arith in
-      let q : stream (turned p) w / 2 ^ 23 ≡ w = omega (arith, turned-lt (turned p)) in
-      sym (turned-after n (turned p) w ∙ ap (λ (k : ℕ). stream (turned p) w / 2 ^ k % 2 ^ 23) (sym e)
-      ∙ ap (λ (x : ℕ). x % 2 ^ 23) (sym (shr-shr (stream (turned p) w) 23 (n - 23)) ∙ ap (λ (x : ℕ). x / 2 ^ (n - 23)) q))
+  -- and after 20 bits or more, which leave three bits of the past at most
+  pub after-frame : (n : ℕ) → 20 ≤ n → n ≤ 48 → bitOr (p / 2 ^ 20) (w * 2 ^ 3 % 2 ^ 64) / 2 ^ (n - 20) % 2 ^ 23 ≡ turned (pushAll (turned p) (bitsOf n w))
+  after-frame n many few =
+      let a = stream (turned p) w in
+      let q : a ≡ p + 2 ^ 23 * w = ap (λ (x : ℕ). x + 2 ^ 23 * w) (turned-back p low) in
+      let up : w * 2 ^ 3 % 2 ^ 64 ≡ w % 2 ^ 61 * 2 ^ 3 = omega arith in
+      let few-left : p / 2 ^ 20 < 2 ^ 3 = omega arith in
+      let high : a / 2 ^ 20 ≡ w * 2 ^ 3 + p / 2 ^ 20 = omega arith in
+      let cut : a / 2 ^ 20 % 2 ^ 64 ≡ w % 2 ^ 61 * 2 ^ 3 + p / 2 ^ 20
+      = ap (λ (x : ℕ). x % 2 ^ 64) high ∙ mod-pow-add (w * 2 ^ 3 + p / 2 ^ 20) 61 3 ∙ ap₂ (λ (x y : ℕ). x % 2 ^ 61 * 2 ^ 3 + y) (pow-high w 3 few-left) (pow-low w 3 few-left) in
+      let e : 20 + (n - 20) ≡ n = omega arith in
+      ap (λ (x : ℕ). x / 2 ^ (n - 20) % 2 ^ 23) (ap (bitOr (p / 2 ^ 20)) up ∙ or-shifted-r (w % 2 ^ 61) 3 (p / 2 ^ 20) few-left ∙ sym cut)
+      ∙ in-word (a / 2 ^ 20) (n - 20) (omega arith) ∙ ap (λ (x : ℕ). x % 2 ^ 23) (shr-shr a 20 (n - 20) ∙ ap (λ (k : ℕ). a / 2 ^ k) e) ∙ sym (turned-after n (turned p) w)
 
 pub scrambled : (p d n w q : ℕ) → p < 2 ^ 23 → n ≤ 18 → w ≡ mix d p % 2 ^ n → q ≡ turned (pushAll (turned p) (bitsOf n w)) → Scrambled p d n w q
 scrambled p d n w q l few ew eq =
@@ -228,10 +238,24 @@ scrambled-join p d m n k v w q r e fits a b =
           ∙ ap turned (sym (pushAll-append h one two) ∙ ap (pushAll h) whole);
     }
 
--- ---- seen from the history h: the bits F h came out, and the scrambled bits G h went into it
+-- ---- a frame's bits, the first n of m
 
-pub from-history : (F G : ℕ → List Bool) (h p w q g : ℕ) → h < 2 ^ 23 → p ≡ turned h → w ≡ numberOf (F (turned p))
-    → q ≡ turned (pushAll (turned p) (G (turned p))) → g ≡ turned q → (w ≡ numberOf (F h)) × (g ≡ pushAll h (G h))
-from-history F G h p w q g l ep ew eq eg =
-    let back : turned p ≡ h = ap turned ep ∙ turned-back h l in
-    (ew ∙ ap (λ (x : ℕ). numberOf (F x)) back, eg ∙ ap turned (eq ∙ ap (λ (x : ℕ). turned (pushAll x (G x))) back) ∙ turned-back (pushAll h (G h)) (pushAll-lt h (G h) l))
+pub scrambled-first : (p d n m v cut q l : ℕ) → n ≤ m → Scrambled p d m v q → cut ≡ 2 ^ n → l ≡ turned (pushAll (turned p) (bitsOf n (v % cut))) → Scrambled p d n (v % cut) l
+scrambled-first p d n m v cut q l few r ec el =
+    let h = turned p in
+    let one = scramble h (bitsOf n d) in
+    let two = scramble (pushAll h one) (bitsOf (m - n) (d / 2 ^ n)) in
+    let long : length one ≡ n = length-scramble h (bitsOf n d) ∙ length-bitsOf n d in
+    let e : n + (m - n) ≡ m = omega arith in
+    let whole : scramble h (bitsOf m d) ≡ one ++ two
+    = ap (scramble h) (ap (λ (j : ℕ). bitsOf j d) (sym e) ∙ bits-split n (m - n) d) ∙ scramble-append h (bitsOf n d) (bitsOf (m - n) (d / 2 ^ n)) in
+    let value : v ≡ numberOf two * 2 ^ n + numberOf one
+    = r .out ∙ ap numberOf whole ∙ number-append one two ∙ ap (λ (j : ℕ). numberOf one + 2 ^ j * numberOf two) long
+    ∙ add-comm (numberOf one) (2 ^ n * numberOf two) ∙ ap (λ (x : ℕ). x + numberOf one) (mul-comm (2 ^ n) (numberOf two)) in
+    let out : v % cut ≡ numberOf one = ap₂ _%_ value ec ∙ pow-low (numberOf two) n (rw long at (numberOf-lt one)) in
+    record { out = out; left = el ∙ ap (λ (bs : List Bool). turned (pushAll h bs)) (ap (bitsOf n) out ∙ bits-back n one long) }
+
+-- ---- seen from the history h, into which the bits bs went
+
+pub from-past : (h q : ℕ) (bs : List Bool) → h < 2 ^ 23 → q ≡ turned (pushAll h bs) → turned q ≡ pushAll h bs
+from-past h q bs l e = ap turned e ∙ turned-back (pushAll h bs) (pushAll-lt h bs l)

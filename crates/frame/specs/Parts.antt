@@ -4,6 +4,7 @@ use Prim.Native.Nat.{ℕ, _+_, _%_, _≤_, _<_, _^_}
 use mathlib.Core.List.{List, []}
 use lib.Dec.{eqb}
 use lib.ListN.{getD}
+use Rattle.standard.specs.Lists.{listFrom}
 use Rattle.standard.specs.First.{Test, test}
 use Rattle.standard.specs.Bits.{bit}
 use Rattle.standard.specs.Record.{K}
@@ -16,23 +17,31 @@ use Rattle.standard.specs.declared.LineState.{LineState}
 use Rattle.standard.specs.declared.Record.{Record}
 use Rattle.mapping.specs.declared.Mapping.{Mapping}
 use Rattle.mapping.specs.Tables.{mappingOf, pointTables, labelTables}
+use Rattle.frame.specs.declared.Carried.{Carried}
+use Rattle.frame.specs.Past.{turned}
+use Rattle.frame.specs.Reciprocals.{reciprocalOf}
+
+-- the line state that is carried
+abbrev pub stateOf : Carried → LineState
+stateOf x = record { history = turned (x .past); sign = x .sign }
 
 -- The functions of a frame have no record. Their contracts ask that K, sizes and table are drawn up of some record, and speak of each such record.
 
--- a frame of the record r can be sent in the state st: m and ps are drawn up of r
-pub record Sendable (r : Record) (m : Mapping) (ps : List (List ℕ)) (st : LineState) : Type 0 where
+-- a frame of the record r can be sent from the carried state x: m, its sizes' reciprocals vs and ps are drawn up of r
+pub record Sendable (r : Record) (m : Mapping) (vs : List ℕ) (ps : List (List ℕ)) (x : Carried) : Type 0 where
   pub rate : r .drn ≤ 28
   pub mapped : m ≡ mappingOf r
+  pub inverse : vs ≡ listFrom (reciprocalOf (m .sizes)) 0 6
   pub points : ps ≡ pointTables r
   pub holds : 2 ^ K r ≤ product (sizes r)
-  pub history : st .history < 2 ^ 23
+  pub past : x .past < 2 ^ 23
 
--- a frame of the record r can be received in the state st: m and ls are drawn up of r
-pub record Receivable (r : Record) (m : Mapping) (ls : List (List ℕ)) (st : LineState) : Type 0 where
+-- a frame of the record r can be received in the carried state x: m and ls are drawn up of r
+pub record Receivable (r : Record) (m : Mapping) (ls : List (List ℕ)) (x : Carried) : Type 0 where
   pub rate : r .drn ≤ 28
   pub mapped : m ≡ mappingOf r
   pub labels : ls ≡ labelTables r
-  pub history : st .history < 2 ^ 23
+  pub past : x .past < 2 ^ 23
 
 -- the octet in interval i, of points by label, of labels and of signs as bits of a number
 unfoldable pub octetIn : Law → List (List ℕ) → List ℕ → ℕ → ℕ → ℕ

@@ -1,6 +1,6 @@
 // One data frame each way: D = K + 6 data bits, held as a number with bit 0 first in time, and six octets.
 // K, the sizes and the tables are those that a call draws up of its record.
-mod modulus;
+pub mod modulus;
 mod scrambler;
 mod signs;
 
@@ -9,11 +9,13 @@ use bits::wide;
 use mapping::Mapping;
 use modulus::labels_of;
 use pcm::octet_of;
-use pcm::sign_of;
 use pcm::ucode_of;
-use scrambler::descramble_bits;
-use scrambler::scramble_bits;
+use scrambler::descramble_past;
+use scrambler::past_after;
+use scrambler::scramble_past;
+use scrambler::turn;
 use signs::sign_bits_of;
+use signs::signs_in;
 use signs::signs_of;
 use standard::Law;
 use standard::LineState;
@@ -29,13 +31,41 @@ ghost use Rattle.standard.specs.Scrambler.{pushAll};
 ghost use Rattle.standard.specs.Modulus.{number as numberIn};
 ghost use Rattle.standard.specs.Frame.{sendFrame, sendNext, mark as markOf, receiveFrame, receiveNext};
 ghost use Rattle.standard.specs.declared.Record.{Record};
-ghost use Rattle.frame.specs.Parts.{Sendable, Receivable, octetIn, labelIn, noneTest};
+ghost use Rattle.frame.specs.Past.{turned};
+ghost use Rattle.frame.specs.Parts.{stateOf, Sendable, Receivable, octetIn, labelIn, noneTest};
+
+// A line state on its way through a call: its history in the order of time, and the last sign.
+pub struct Carried {
+    pub past: u32,
+    pub sign: bool,
+}
 
 // A frame received: its mark, the state left, and its D data bits.
 pub struct FrameReceived {
     pub mark: u8,
-    pub state: LineState,
+    pub line: Carried,
     pub bits: u64,
+}
+
+// A line state, to be carried.
+pub fn carry(state: LineState) -> Carried
+    requires { ⌜ state .history < 2 ^ 23 ⌝ }
+    ensures { λ x. ⌜ (stateOf x ≡ state) × (x .past < 2 ^ 23) ⌝ }
+{
+    Carried {
+        past: turn(state.history),
+        sign: state.sign,
+    }
+}
+
+// The line state that is carried.
+pub fn state_of(line: Carried) -> LineState
+    ensures { λ x. ⌜ x ≡ stateOf line ⌝ }
+{
+    LineState {
+        history: turn(line.past),
+        sign: line.sign,
+    }
 }
 
 // Writes the six octets of six labels and six signs; bit i of `signs` is the sign in interval i.
@@ -56,22 +86,23 @@ fn write_octets(law: Law, points: &[[u8; 128]; 6], labels: [u64; 6], signs: u64,
 pub fn send_frame(
     law: Law,
     mapping: Mapping,
+    inverses: [u64; 6],
     points: &[[u8; 128]; 6],
-    state: LineState,
+    line: Carried,
     bits: u64,
     octets: &mut [u8],
-) -> LineState
-    requires { ⌜ ((r : Record) × Sendable r mapping (now points) state) × (length (now octets) ≡ 6) ⌝ }
-    ensures { λ x. ⌜ ((r : Record) → Sendable r mapping (now (points .entry)) state
-        → (now (octets .exit) ≡ sendFrame r law state (bitsOf (D r) bits)) × (x ≡ sendNext state (bitsOf (D r) bits))) ⌝ }
+) -> Carried
+    requires { ⌜ ((r : Record) × Sendable r mapping inverses (now points) line) × (length (now octets) ≡ 6) ⌝ }
+    ensures { λ x. ⌜ ((r : Record) → Sendable r mapping inverses (now (points .entry)) line
+        → (now (octets .exit) ≡ sendFrame r law (stateOf line) (bitsOf (D r) bits)) × (stateOf x ≡ sendNext (stateOf line) (bitsOf (D r) bits)) × (x .past < 2 ^ 23)) ⌝ }
 {
     let sizes = mapping.sizes;
-    let line = scramble_bits(state.history, bits, mapping.k + 6);
-    let signs = signs_of(state.sign, line.bits);
-    let labels = labels_of(sizes, line.bits >> 6);
+    let sent = scramble_past(line.past, bits, mapping.k + 6);
+    let signs = signs_of(line.sign, sent.bits);
+    let labels = labels_of(sizes, inverses, sent.bits >> 6);
     write_octets(law, points, labels, signs, octets);
-    LineState {
-        history: line.history,
+    Carried {
+        past: sent.past,
         sign: bit_of(signs, 5),
     }
 }
@@ -120,19 +151,19 @@ fn number_of(sizes: [u64; 6], found: [u8; 6]) -> u64
 }
 
 // A marked frame: zero data bits, and as many zeros into the history. `sign` is the sign of its sixth octet.
-fn marked_frame(width: usize, state: LineState, sign: bool, mark: u8) -> FrameReceived
-    requires { ⌜ (width ≤ 48) × (state .history < 2 ^ 23) ⌝ }
-    ensures { λ x. ⌜ (x .mark ≡ mark) × (x .state .history ≡ pushAll (state .history) (replicate width false))
-        × (x .state .sign ≡ sign) × (x .bits ≡ 0) ⌝ }
+fn marked_frame(width: usize, line: Carried, sign: bool, mark: u8) -> FrameReceived
+    requires { ⌜ (20 ≤ width) × (width ≤ 48) × (line .past < 2 ^ 23) ⌝ }
+    ensures { λ x. ⌜ (x .mark ≡ mark) × (x .line .past ≡ turned (pushAll (stateOf line .history) (replicate width false)))
+        × (x .line .sign ≡ sign) × (x .bits ≡ 0) ⌝ }
 {
-    let zeros = descramble_bits(state.history, 0, width);
-    let left = LineState {
-        history: zeros.history,
+    let zeros = past_after(line.past, 0, width);
+    let left = Carried {
+        past: zeros,
         sign: sign,
     };
     FrameReceived {
         mark: mark,
-        state: left,
+        line: left,
         bits: 0,
     }
 }
@@ -142,36 +173,37 @@ pub fn receive_frame(
     law: Law,
     mapping: Mapping,
     labels: &[[u8; 128]; 6],
-    state: LineState,
+    line: Carried,
     octets: &[u8],
 ) -> FrameReceived
-    requires { ⌜ ((r : Record) × Receivable r mapping (now labels) state) × (length (now octets) ≡ 6) ⌝ }
-    ensures { λ x. ⌜ ((r : Record) → Receivable r mapping (now (labels .entry)) state
-        → (x .mark ≡ markOf r law (now (octets .entry))) × (x .state ≡ receiveNext r law state (now (octets .entry)))
-        × (x .bits ≡ numberOf (receiveFrame r law state (now (octets .entry))))) ⌝ }
+    requires { ⌜ ((r : Record) × Receivable r mapping (now labels) line) × (length (now octets) ≡ 6) ⌝ }
+    ensures { λ x. ⌜ ((r : Record) → Receivable r mapping (now (labels .entry)) line
+        → (x .mark ≡ markOf r law (now (octets .entry))) × (stateOf (x .line) ≡ receiveNext r law (stateOf line) (now (octets .entry))) × (x .line .past < 2 ^ 23)
+        × (x .bits ≡ numberOf (receiveFrame r law (stateOf line) (now (octets .entry))))) ⌝ }
 {
     let k = mapping.k;
     let width = k + 6;
     let sizes = mapping.sizes;
-    let sign = sign_of(octets[5]);
+    let signs = signs_in(octets);
+    let sign = bit_of(signs, 5);
     let found = labels_in(law, labels, octets);
     let outside = mark_outside(found);
     if outside != 0 {
-        return marked_frame(width, state, sign, outside);
+        return marked_frame(width, line, sign, outside);
     }
     let number = number_of(sizes, found);
     if (1u64 << k) <= number {
-        return marked_frame(width, state, sign, 7);
+        return marked_frame(width, line, sign, 7);
     }
-    let line = sign_bits_of(state.sign, octets) | (number << 6);
-    let plain = descramble_bits(state.history, line, width);
-    let left = LineState {
-        history: plain.history,
+    let heard = sign_bits_of(line.sign, signs) | (number << 6);
+    let plain = descramble_past(line.past, heard, width);
+    let left = Carried {
+        past: plain.past,
         sign: sign,
     };
     FrameReceived {
         mark: 0,
-        state: left,
+        line: left,
         bits: plain.bits,
     }
 }

@@ -78,6 +78,9 @@ module _ (r : Record) (m : Mapping) (e : m ≡ mappingOf r) where
   pub width-le : r .drn ≤ 28 → m .k + 6 ≤ 48
   width-le h = omega (arith, ap (λ (x : Mapping). x .k) e)
 
+  pub width-ge : 20 ≤ m .k + 6
+  width-ge = omega (arith, ap (λ (x : Mapping). x .k) e)
+
   pub size-le : (i : ℕ) → getD (m .sizes) i 0 ≤ 128
   size-le i = rw e (go (decLt i 6))
     where

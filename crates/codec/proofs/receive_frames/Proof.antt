@@ -1,23 +1,32 @@
--- After n turns the first n frames are received; then the rest of the last byte is zeroed. Assumes nothing.
-use mathlib.Core.Path.{refl, ap, _∙_}
-use Prim.Native.Nat.{ℕ, _-_, _*_, _≤_, _<_}
-use native.Mathlib.Nat.{le-refl}
+-- After n turns the first n frames are received, and fewer than 64 of their bits are held. Assumes nothing.
+use mathlib.Core.Path.{_≡_, refl, sym, ap, ap₂, _∙_}
+use Prim.Native.Nat.{ℕ, _+_, _-_, _*_, _^_, _≤_, _<_}
+use native.Mathlib.Nat.{suc-mul}
+use native.Mathlib.Numerals.{add-one}
 use native.Mathlib.Omega.{arith}
 use lib.ListN.{length, getD, take}
+use Rattle.standard.specs.Bits.{bytesFor, bytesOf, nth}
+use Rattle.standard.specs.Frame.{dataBits, receiveFrames, receiveAfter}
+use Rattle.standard.specs.Calls.{over}
+use Rattle.standard.specs.declared.LineState.{LineState}
 use Rattle.standard.specs.declared.Record.{Record}
-use Rattle.bits.proofs.PutField.{length-putField}
+use Rattle.bits.specs.PutField.{putField, Holds, poured}
+use Rattle.bits.proofs.Joining.{poured-none, length-poured}
 use Rattle.mapping.specs.Tables.{labelTables}
+use Rattle.frame.specs.Parts.{stateOf, Receivable}
 use Rattle.codec.specs.Loops.{Drawn, Receiving}
-use Rattle.codec.proofs.Loops.{receive-start, receivable, receive-more, receive-all, few-bits, bits-room, rest-room, six-long}
+use Rattle.codec.proofs.Loops.{receive-start, receivable, receive-more, receive-all, few-bits, six-long, bits-room, word-fits}
 use Rattle.codec.proofs.receive_frames.Statement.{statement}
 use Rattle.codec.proofs.receive_frames.Tie as tie
 
 abbrev Inv-loop : tie.InvT-loop
-Inv-loop law frames octets bytes₀ marks₀ labels mapping width left₀ n₀ bytes marks left n =
-    (r : Record) → Drawn labelTables r left₀ frames width mapping labels → Receiving r law frames left₀ (take (6 * frames) octets) bytes₀ marks₀ n left bytes marks
+Inv-loop law frames octets bytes₀ marks₀ labels mapping width line₀ pouring₀ n₀ bytes marks line pouring n =
+    (line .past < 2 ^ 23) × Holds pouring × (8 * pouring .to + pouring .count ≡ n * width)
+    × ((r : Record) → Drawn labelTables r (stateOf line₀) frames width mapping labels
+    → Receiving r law frames (stateOf line₀) (take (6 * frames) octets) bytes₀ marks₀ n (stateOf line) (poured bytes pouring) marks)
 
 abbrev μ-loop : tie.MeasureT-loop
-μ-loop law frames octets bytes₀ marks₀ labels mapping width left₀ n₀ bytes marks left n = frames - n
+μ-loop law frames octets bytes₀ marks₀ labels mapping width line₀ pouring₀ n₀ bytes marks line pouring n = frames - n
 
 draw-up-requires : tie.Need-draw-up-requires Inv-loop μ-loop
 draw-up-requires c κs = (c .before .before .before .before .before .pre .0 .index, refl, refl)
@@ -25,33 +34,53 @@ draw-up-requires c κs = (c .before .before .before .before .before .pre .0 .ind
 frame-width-requires : tie.Need-frame-width-requires Inv-loop μ-loop
 frame-width-requires c κs = tt
 
+carry-requires : tie.Need-carry-requires Inv-loop μ-loop
+carry-requires c κs = c .before .before .before .before .before .before .before .pre .0 .history
+
 -- the call, before anything is drawn up
-abbrev start : tie.After-frame-width Inv-loop μ-loop → tie.Start Inv-loop μ-loop
-start c = c .before .before .before .before .before .before .before
+abbrev start : tie.After-carry Inv-loop μ-loop → tie.Start Inv-loop μ-loop
+start c = c .before .before .before .before .before .before .before .before
 
 -- the data buffer holds bytes
 byte : (c : tie.After-slice-known Inv-loop μ-loop) (i : ℕ) → getD (c .before .before .args .bytes .now) i 0 < 256
 byte c i = omega (arith, c .slice-known .given i)
 
 loop-holds : tie.Need-loop-holds Inv-loop μ-loop
-loop-holds c r d =
+loop-holds c =
     let a = start c .args in
-    receive-start r (a .law) (a .frames) (a .state) (a .octets .now) (a .bytes .now) (a .marks .now) (d .allowed .history) (byte (c .before .before .before .before .before))
+    let empty = poured-none (a .bytes .now) 0 (byte (c .before .before .before .before .before .before)) in (
+      c .carry .ensures .1,
+      record { few = omega arith; small = omega arith },
+      omega arith,
+      λ r d. rw empty (receive-start r (a .law) (a .frames) (stateOf (c .carry .result)) (a .octets .now) (a .bytes .now) (a .marks .now) (byte (c .before .before .before .before .before .before))),
+    )
 
 -- what the call draws up of its record
-drawn : (c : tie.After-frame-width Inv-loop μ-loop)
-    → Drawn labelTables (start c .args .r) (start c .args .state) (start c .args .frames) (c .frame-width .result) (c .before .draw-up .result) (c .before .draw-up .last .1 .1 .0)
+drawn : (c : tie.After-carry Inv-loop μ-loop)
+    → Drawn labelTables (start c .args .r) (stateOf (c .carry .result)) (start c .args .frames) (c .before .frame-width .result) (c .before .before .draw-up .result) (c .before .before .draw-up .last .1 .1 .0)
 drawn c =
-    let e = c .before .draw-up .ensures in
-    record { allowed = start c .pre .0; wide = c .frame-width .ensures; mapped = e .0; tabled = e .2 }
+    let e = c .before .before .draw-up .ensures in
+    record { allowed = rw (c .carry .ensures .0) (start c .pre .0); wide = c .before .frame-width .ensures; mapped = e .0; tabled = e .2 }
 
 -- the turn is one of 1,024 at most
 few : (c : tie.In-loop Inv-loop μ-loop) → c .before .loop .n < 1024
 few c = omega (arith, start (c .before .before) .pre .0 .few)
 
--- no call has more data bits than these
-bits-in : (c : tie.After-frame-width Inv-loop μ-loop) (n : ℕ) → n ≤ start c .args .frames → (c .frame-width .result ≤ 48) × (n * c .frame-width .result ≤ 49152)
-bits-in c n h = let b = start c in few-bits (b .args .r) n (b .args .frames) (c .frame-width .result) h (b .pre .0 .few) (c .frame-width .ensures) (b .pre .0 .rate)
+-- a frame has no more data bits than these
+wide : (c : tie.After-carry Inv-loop μ-loop) → c .before .frame-width .result ≤ 48
+wide c = let b = start c in few-bits (b .args .r) 0 (b .args .frames) (c .before .frame-width .result) (omega arith) (b .pre .0 .few) (c .before .frame-width .ensures) (b .pre .0 .rate) .0
+
+-- the data buffer is as long as it was lent
+long : (c : tie.At-loop Inv-loop μ-loop) → length (c .loop .bytes) ≡ length (start (c .before) .args .bytes .now)
+long c = sym (length-poured (c .loop .bytes) (c .loop .pouring)) ∙ c .loop .inv .3 _ (drawn (c .before)) .longBits
+
+-- the next frame can be received, of each record that all this is drawn up of
+able : (c : tie.In-loop Inv-loop μ-loop) (r : Record) → Drawn labelTables r (stateOf (c .before .before .carry .result)) (start (c .before .before) .args .frames) (c .before .before .before .frame-width .result) (c .before .before .before .before .draw-up .result) (c .before .before .before .before .draw-up .last .1 .1 .0)
+    → Receivable r (c .before .before .before .before .draw-up .result) (c .before .before .before .before .draw-up .last .1 .1 .0) (c .before .loop .line)
+able c r d =
+    let a = start (c .before .before) .args in
+    let l = c .before .loop in
+    receivable r (a .law) (a .frames) _ (a .octets .now) (a .bytes .now) (a .marks .now) _ _ _ (l .line) d (l .inv .0)
 
 mul-at : tie.Need-mul-at Inv-loop μ-loop
 mul-at c = omega (arith, few c)
@@ -71,27 +100,23 @@ part-receive-frame-end c = omega (arith, start (c .before .before .before) .pre 
 receive-frame-requires : tie.Need-receive-frame-requires Inv-loop μ-loop
 receive-frame-requires c κs =
     let b = start (c .before .before .before .before) in
-    let l = c .before .before .before .loop in
-    let d = drawn (c .before .before .before .before) in (
-      (b .args .r, receivable (b .args .r) (b .args .law) (b .args .frames) (b .args .state) (b .args .octets .now) (b .args .bytes .now) (b .args .marks .now) (l .n) _ _ _ (l .left) _ _ d (l .inv _ d)),
-      six-long (b .args .octets .now) (l .n) (b .args .frames) (omega arith) (b .pre .1),
-    )
+    ((_, able (c .before .before) _ (drawn (c .before .before .before .before))), six-long (b .args .octets .now) (c .before .before .before .loop .n) (b .args .frames) (omega arith) (b .pre .1))
 
-mul-put-field : tie.Need-mul-put-field Inv-loop μ-loop
-mul-put-field c = omega (arith, bits-in (c .before .before .before .before .before .before) (c .before .before .before .before .before .loop .n) (omega arith) .1)
-
-put-field-requires : tie.Need-put-field-requires Inv-loop μ-loop
-put-field-requires c κs =
+pour-requires : tie.Need-pour-requires Inv-loop μ-loop
+pour-requires c κs =
     let b = start (c .before .before .before .before .before .before) in
+    let a = b .args in
     let l = c .before .before .before .before .before .loop in
-    let in-call = bits-in (c .before .before .before .before .before .before) (l .n) (omega arith) in (
-      omega (arith, in-call .0),
-      omega (arith, in-call .1),
-      omega (arith, bits-room (b .args .r) (l .n) (b .args .frames) _ (length (b .args .bytes .now)) (omega arith) (c .before .before .before .before .before .before .frame-width .ensures) (b .pre .2), l .inv _ (drawn (c .before .before .before .before .before .before)) .longBits),
+    let d = drawn (c .before .before .before .before .before .before) in
+    let got = c .before .receive-frame .ensures _ (able (c .before .before .before .before) _ d) in (
+      l .inv .1,
+      omega (arith, wide (c .before .before .before .before .before .before)),
+      word-fits (a .r) (a .law) (stateOf (l .line)) _ _ _ (got .3) (d .wide),
+      omega (arith, bits-room (a .r) (l .n) (a .frames) _ (length (a .bytes .now)) (omega arith) (d .wide) (b .pre .2), long (c .before .before .before .before .before), l .inv .2),
     )
 
 slice-write-marks : tie.Need-slice-write-marks Inv-loop μ-loop
-slice-write-marks c = let l = c .before .before .before .before .before .before .before .before .loop in omega (arith, start (c .before .before .before .before .before .before .before .before .before) .pre .3, l .inv _ (drawn (c .before .before .before .before .before .before .before .before .before)) .longMarks)
+slice-write-marks c = omega (arith, start (c .before .before .before .before .before .before .before .before .before) .pre .3, c .before .before .before .before .before .before .before .before .loop .inv .3 _ (drawn (c .before .before .before .before .before .before .before .before .before)) .longMarks)
 
 add-n : tie.Need-add-n Inv-loop μ-loop
 add-n c = omega (arith, few (c .before .before .before .before .before .before .before .before))
@@ -99,50 +124,62 @@ add-n c = omega (arith, few (c .before .before .before .before .before .before .
 loop-less : tie.Need-loop-less Inv-loop μ-loop
 loop-less c = omega arith
 
+next : (n w : ℕ) → n * w + w ≡ (n + 1) * w
+next n w = sym (ap (λ (k : ℕ). k * w) (add-one n) ∙ suc-mul n w)
+
 loop-again : tie.Need-loop-again Inv-loop μ-loop
-loop-again c r d =
+loop-again c =
     let b = start (c .before .before .before .before .before .before .before .before .before .before) in
     let a = b .args in
     let l = c .before .before .before .before .before .before .before .before .before .loop in
-    let so-far = l .inv r d in
-    let got = c .before .before .before .before .before .receive-frame .ensures r (receivable r (a .law) (a .frames) (a .state) (a .octets .now) (a .bytes .now) (a .marks .now) (l .n) _ _ _ (l .left) _ _ d so-far) in
-    receive-more r (a .law) (a .frames) (a .state) (a .octets .now) (a .bytes .now) (a .marks .now) (l .n) _ _ _ (l .left) _ (l .bytes) _ (l .marks) _ so-far
-    (omega arith) (b .pre .1) (b .pre .3) refl (got .0) (got .1) (got .2) (d .wide) (c .before .before .before .put-field .ensures)
+    let w = c .before .before .before .before .before .before .before .before .before .before .before .frame-width .result in
+    let put = c .before .before .before .pour .ensures in
+    let got = c .before .before .before .before .before .receive-frame .ensures in (
+      got _ (able (c .before .before .before .before .before .before .before .before) _ (drawn (c .before .before .before .before .before .before .before .before .before .before))) .2,
+      put .0,
+      put .1 ∙ ap (λ (x : ℕ). x + w) (l .inv .2) ∙ next (l .n) w,
+      λ r d.
+          let x = got r (able (c .before .before .before .before .before .before .before .before) r d) in
+          receive-more r (a .law) (a .frames) _ (a .octets .now) (a .bytes .now) (a .marks .now) (l .n) _ _ w _ (stateOf (l .line)) _ _ _ (l .marks) _ (l .inv .3 r d)
+          (omega arith) (b .pre .1) (b .pre .3) refl (x .0) (x .1) (x .3) (d .wide) (l .inv .2) (put .2),
+    )
 
-mul-used : tie.Need-mul-used Inv-loop μ-loop
-mul-used c = omega (arith, bits-in (c .before .before) _ (le-refl _) .1)
+-- at the end every bit of the call is poured
+used : (c : tie.After-loop Inv-loop μ-loop) → 8 * c .before .loop .pouring .to + c .before .loop .pouring .count ≡ dataBits (start (c .before .before) .args .r) (start (c .before .before) .args .frames)
+used c =
+    let e : c .before .loop .n ≡ start (c .before .before) .args .frames = omega (arith, c .before .loop .inv .3 _ (drawn (c .before .before)) .done) in
+    c .before .loop .inv .2 ∙ ap₂ _*_ e (c .before .before .before .frame-width .ensures)
 
-data-bytes-requires : tie.Need-data-bytes-requires Inv-loop μ-loop
-data-bytes-requires c κs = (bits-in (c .before .before .before) _ (le-refl _) .0, start (c .before .before .before) .pre .0 .few)
+pour-out-requires : tie.Need-pour-out-requires Inv-loop μ-loop
+pour-out-requires c κs = (c .before .before .loop .inv .1, omega (arith, start (c .before .before .before) .pre .2, long (c .before .before), used (c .before)))
 
-mul-put-field-2 : tie.Need-mul-put-field-2 Inv-loop μ-loop
-mul-put-field-2 c = omega (arith, bits-in (c .before .before .before .before) _ (le-refl _) .1, c .data-bytes .ensures)
-
-sub-put-field : tie.Need-sub-put-field Inv-loop μ-loop
-sub-put-field c = omega (arith, c .data-bytes .ensures)
-
-put-field-requires-2 : tie.Need-put-field-requires-2 Inv-loop μ-loop
-put-field-requires-2 c κs =
-    let b = start (c .before .before .before .before) in
-    let room = rest-room (b .args .r) (b .args .frames) _ (c .data-bytes .result) (length (b .args .bytes .now)) (c .before .before .before .before .frame-width .ensures) (c .data-bytes .ensures) (b .pre .2) in
-    (room .0, omega (arith, bits-in (c .before .before .before .before) _ (le-refl _) .1), omega (arith, room .1, c .before .before .before .loop .inv _ (drawn (c .before .before .before .before)) .longBits))
+state-of-requires : tie.Need-state-of-requires Inv-loop μ-loop
+state-of-requires c κs = tt
 
 same-length : tie.Need-same-length Inv-loop μ-loop
-same-length c =
-    let l = c .before .before .before .before .before .before .loop in
-    ap length (c .before .before .put-field2 .ensures) ∙ length-putField (l .bytes) _ _ 0 ∙ l .inv _ (drawn (c .before .before .before .before .before .before .before)) .longBits
+same-length c = c .before .before .before .pour-out .kept .0 ∙ long (c .before .before .before .before .before .before)
 
 same-length-2 : tie.Need-same-length-2 Inv-loop μ-loop
-same-length-2 c = c .before .before .before .before .before .before .loop .inv _ (drawn (c .before .before .before .before .before .before .before)) .longMarks
+same-length-2 c = c .before .before .before .before .before .before .loop .inv .3 _ (drawn (c .before .before .before .before .before .before .before)) .longMarks
 
 returns : tie.Need-returns Inv-loop μ-loop
 returns c =
     let b = start (c .before .before .before .before .before .before .before) in
     let a = b .args in
     let l = c .before .before .before .before .before .before .loop in
-    let needed = c .before .before .before .data-bytes in
-    receive-all (a .r) (a .law) (a .frames) (a .state) (a .octets .now) (a .bytes .now) (a .marks .now) (l .n) _ (needed .result) (l .left) (l .bytes) _ (l .marks) (l .inv _ (drawn (c .before .before .before .before .before .before .before)))
-    (omega arith) (byte (c .before .before .before .before .before .before .before .before .before .before .before .before)) (b .pre .2) (c .before .before .before .before .before .before .before .frame-width .ensures) (needed .ensures) (c .before .before .put-field2 .ensures)
+    let N = a .frames in
+    let w = c .before .before .before .before .before .before .before .before .frame-width in
+    let os = take (6 * N) (a .octets .now) in
+    let e = c .before .before .before .before .before .before .before .carry .ensures .0 in
+    let whole : 8 * l .pouring .to + l .pouring .count ≡ N * w .result = used (c .before .before .before .before .before) ∙ ap (λ (x : ℕ). N * x) (sym (w .ensures)) in
+    let rest : 8 * bytesFor (l .pouring .count) - l .pouring .count ≡ 8 * bytesFor (N * w .result) - N * w .result = omega arith in
+    let all =
+    receive-all (a .r) (a .law) N _ (a .octets .now) (a .bytes .now) (a .marks .now) (l .n) (w .result) (stateOf (l .line)) _ _ (l .marks) (l .inv .3 _ (drawn (c .before .before .before .before .before .before .before)))
+    (omega arith) (byte (c .before .before .before .before .before .before .before .before .before .before .before .before .before)) (b .pre .2) (w .ensures) (c .before .before .before .pour-out .ensures ∙ ap₂ (λ (x k : ℕ). putField (poured (l .bytes) (l .pouring)) x k 0) whole rest) in (
+      c .state-of .ensures ∙ all .0 ∙ ap (λ (st : LineState). receiveAfter (a .r) (a .law) N st os) e,
+      all .1 ∙ ap (λ (st : LineState). over (bytesOf (bytesFor (dataBits (a .r) N)) (nth (receiveFrames (a .r) (a .law) N st os))) (a .bytes .now)) e,
+      all .2,
+    )
 
 pub receive-frames-spec : {M : Type 1} → statement M
 receive-frames-spec =
@@ -152,6 +189,7 @@ receive-frames-spec =
     μ-loop
     draw-up-requires
     frame-width-requires
+    carry-requires
     loop-holds
     mul-at
     add-end
@@ -159,17 +197,13 @@ receive-frames-spec =
     part-receive-frame-start
     part-receive-frame-end
     receive-frame-requires
-    mul-put-field
-    put-field-requires
+    pour-requires
     slice-write-marks
     add-n
     loop-less
     loop-again
-    mul-used
-    data-bytes-requires
-    mul-put-field-2
-    sub-put-field
-    put-field-requires-2
+    pour-out-requires
+    state-of-requires
     same-length
     same-length-2
     returns)

@@ -1,57 +1,74 @@
 -- After n turns the first n frames are sent. Assumes nothing.
-use mathlib.Core.Path.{refl, ap, _∙_}
-use Prim.Native.Nat.{ℕ, _+_, _-_, _*_, _≤_, _<_}
+use mathlib.Core.Path.{_≡_, refl, ap, ap₂, _∙_}
+use Prim.Native.Nat.{ℕ, _+_, _-_, _*_, _^_, _≤_, _<_}
 use native.Mathlib.Omega.{arith}
 use lib.ListN.{length}
 use Rattle.standard.specs.Bits.{bitAt, bitsIn, field}
-use Rattle.standard.specs.Frame.{dataBits}
+use Rattle.standard.specs.Frame.{dataBits, sendFrames, sendAfter}
+use Rattle.standard.specs.Calls.{over}
+use Rattle.standard.specs.declared.LineState.{LineState}
 use Rattle.standard.specs.declared.Record.{Record}
 use Rattle.mapping.specs.Tables.{pointTables}
+use Rattle.frame.specs.Parts.{stateOf, Sendable}
 use Rattle.codec.specs.Loops.{Drawn, Sending}
 use Rattle.codec.proofs.Loops.{send-start, sendable, send-more, send-all, few-bits, six-long}
 use Rattle.codec.proofs.send_frames.Statement.{statement}
 use Rattle.codec.proofs.send_frames.Tie as tie
 
 abbrev Inv-loop : tie.InvT-loop
-Inv-loop law frames bytes octets₀ points mapping width left₀ n₀ octets left n =
-    (r : Record) → Drawn pointTables r left₀ frames width mapping points → Sending r law frames left₀ (bitsIn (dataBits r frames) bytes) octets₀ n left octets
+Inv-loop law frames bytes octets₀ points mapping inverses width line₀ n₀ octets line n =
+    (line .past < 2 ^ 23)
+    × ((r : Record) → Drawn pointTables r (stateOf line₀) frames width mapping points → Sending r law frames (stateOf line₀) (bitsIn (dataBits r frames) bytes) octets₀ n (stateOf line) octets)
 
 abbrev μ-loop : tie.MeasureT-loop
-μ-loop law frames bytes octets₀ points mapping width left₀ n₀ octets left n = frames - n
+μ-loop law frames bytes octets₀ points mapping inverses width line₀ n₀ octets line n = frames - n
 
 draw-up-requires : tie.Need-draw-up-requires Inv-loop μ-loop
 draw-up-requires c κs = (c .before .before .before .before .pre .0 .index, refl, refl)
 
+reciprocals-of-requires : tie.Need-reciprocals-of-requires Inv-loop μ-loop
+reciprocals-of-requires c κs = tt
+
 frame-width-requires : tie.Need-frame-width-requires Inv-loop μ-loop
 frame-width-requires c κs = tt
 
+carry-requires : tie.Need-carry-requires Inv-loop μ-loop
+carry-requires c κs = c .before .before .before .before .before .before .before .before .pre .0 .history
+
 -- the call, before anything is drawn up
-abbrev start : tie.After-frame-width Inv-loop μ-loop → tie.Start Inv-loop μ-loop
-start c = c .before .before .before .before .before .before
+abbrev start : tie.After-carry Inv-loop μ-loop → tie.Start Inv-loop μ-loop
+start c = c .before .before .before .before .before .before .before .before .before
 
 loop-holds : tie.Need-loop-holds Inv-loop μ-loop
-loop-holds c r d =
+loop-holds c =
     let a = start c .args in
-    send-start r (a .law) (a .frames) (a .state) (a .bytes .now) (a .octets .now) (d .allowed .history)
+    (c .carry .ensures .1, λ r d. send-start r (a .law) (a .frames) (stateOf (c .carry .result)) (a .bytes .now) (a .octets .now))
 
 -- what the call draws up of its record
-drawn : (c : tie.After-frame-width Inv-loop μ-loop)
-    → Drawn pointTables (start c .args .r) (start c .args .state)
-    (start c .args .frames) (c .frame-width .result) (c .before .draw-up .result) (c .before .draw-up .last .1 .0)
+drawn : (c : tie.After-carry Inv-loop μ-loop)
+    → Drawn pointTables (start c .args .r) (stateOf (c .carry .result)) (start c .args .frames) (c .before .frame-width .result) (c .before .before .before .before .draw-up .result) (c .before .before .before .before .draw-up .last .1 .0)
 drawn c =
-    let e = c .before .draw-up .ensures in
-    record { allowed = start c .pre .0; wide = c .frame-width .ensures; mapped = e .0; tabled = e .1 }
+    let e = c .before .before .before .before .draw-up .ensures in
+    record { allowed = rw (c .carry .ensures .0) (start c .pre .0); wide = c .before .frame-width .ensures; mapped = e .0; tabled = e .1 }
 
-bits-in : (c : tie.In-loop Inv-loop μ-loop) → (c .before .before .frame-width .result ≤ 48) × (c .before .loop .n * c .before .before .frame-width .result ≤ 49152)
+bits-in : (c : tie.In-loop Inv-loop μ-loop) → (c .before .before .before .frame-width .result ≤ 48) × (c .before .loop .n * c .before .before .before .frame-width .result ≤ 49152)
 bits-in c =
     let b = start (c .before .before) in
-    few-bits (b .args .r) (c .before .loop .n) (b .args .frames) (c .before .before .frame-width .result) (omega arith) (b .pre .0 .few) (c .before .before .frame-width .ensures) (b .pre .0 .rate)
+    few-bits (b .args .r) (c .before .loop .n) (b .args .frames) (c .before .before .before .frame-width .result) (omega arith) (b .pre .0 .few) (c .before .before .before .frame-width .ensures) (b .pre .0 .rate)
 
 -- the turn is one of 1,024 at most, and the octets are as many as were lent
 turn : (c : tie.In-loop Inv-loop μ-loop) → (c .before .loop .n < 1024) × (6 * c .before .loop .n + 6 ≤ length (c .before .loop .octets))
 turn c =
     let b = start (c .before .before) in
-    (omega (arith, b .pre .0 .few), omega (arith, c .before .loop .inv _ (drawn (c .before .before)) .long))
+    (omega (arith, b .pre .0 .few), omega (arith, c .before .loop .inv .1 _ (drawn (c .before .before)) .long))
+
+-- the next frame can be sent, of each record that all this is drawn up of
+able : (c : tie.In-loop Inv-loop μ-loop) (r : Record) → Drawn pointTables r (stateOf (c .before .before .carry .result)) (start (c .before .before) .args .frames) (c .before .before .before .frame-width .result) (c .before .before .before .before .before .before .draw-up .result) (c .before .before .before .before .before .before .draw-up .last .1 .0)
+    → Sendable r (c .before .before .before .before .before .before .draw-up .result) (c .before .before .before .before .reciprocals-of .result) (c .before .before .before .before .before .before .draw-up .last .1 .0) (c .before .loop .line)
+able c r d =
+    let a = start (c .before .before) .args in
+    let l = c .before .loop in
+    sendable r (a .law) (a .frames) _ (a .bytes .now) (a .octets .now) (l .n) _ _ _ _ (l .line) d (omega arith) (c .before .before .before .before .reciprocals-of .ensures) (l .inv .0)
 
 mul-field-at : tie.Need-mul-field-at Inv-loop μ-loop
 mul-field-at c = omega (arith, bits-in c .1)
@@ -76,12 +93,8 @@ part-send-frame-end c = omega (arith, turn (c .before .before) .1)
 
 send-frame-requires : tie.Need-send-frame-requires Inv-loop μ-loop
 send-frame-requires c κs =
-    let b = start (c .before .before .before .before .before) in
     let l = c .before .before .before .before .loop in
-    let d = drawn (c .before .before .before .before .before) in (
-      (b .args .r, sendable (b .args .r) (b .args .law) (b .args .frames) (b .args .state) (b .args .bytes .now) (b .args .octets .now) (l .n) _ _ _ (l .left) (l .octets) d (l .inv _ d) (omega arith)),
-      six-long (l .octets) (l .n) (l .n + 1) (omega arith) (omega (arith, turn (c .before .before .before) .1)),
-    )
+    ((_, able (c .before .before .before) _ (drawn (c .before .before .before .before .before))), six-long (l .octets) (l .n) (l .n + 1) (omega arith) (omega (arith, turn (c .before .before .before) .1)))
 
 add-n : tie.Need-add-n Inv-loop μ-loop
 add-n c = omega arith
@@ -90,25 +103,34 @@ loop-less : tie.Need-loop-less Inv-loop μ-loop
 loop-less c = omega arith
 
 loop-again : tie.Need-loop-again Inv-loop μ-loop
-loop-again c r d =
+loop-again c =
     let b = start (c .before .before .before .before .before .before .before .before) in
     let a = b .args in
     let l = c .before .before .before .before .before .before .before .loop in
-    let call = c .before .before .send-frame in
-    let word = c .before .before .before .before .before .field-at in
-    let so-far = l .inv r d in
-    let sent = call .ensures r (sendable r (a .law) (a .frames) (a .state) (a .bytes .now) (a .octets .now) (l .n) _ _ _ (l .left) (l .octets) d so-far (omega arith)) in
-    send-more r (a .law) (a .frames) (a .state) (a .bytes .now) (a .octets .now) (l .n) _ (l .left) (call .result) (l .octets) _ so-far
-    (omega arith) (b .pre .1) (word .ensures ∙ ap (λ (w : ℕ). field (bitAt (a .bytes .now)) (l .n * w) w) (d .wide)) (sent .1) (sent .0)
+    let call = c .before .before .send-frame in (
+      call .ensures _ (able (c .before .before .before .before .before .before) _ (drawn (c .before .before .before .before .before .before .before .before))) .2,
+      λ r d.
+          let sent = call .ensures r (able (c .before .before .before .before .before .before) r d) in
+          send-more r (a .law) (a .frames) _ (a .bytes .now) (a .octets .now) (l .n) _ (stateOf (l .line)) (stateOf (call .result)) (l .octets) _ (l .inv .1 r d)
+          (omega arith) (b .pre .1) (c .before .before .before .before .before .field-at .ensures ∙ ap (λ (w : ℕ). field (bitAt (a .bytes .now)) (l .n * w) w) (d .wide)) (sent .1) (sent .0),
+    )
+
+state-of-requires : tie.Need-state-of-requires Inv-loop μ-loop
+state-of-requires c κs = tt
 
 same-length : tie.Need-same-length Inv-loop μ-loop
-same-length c = c .before .loop .inv _ (drawn (c .before .before)) .long
+same-length c = c .before .before .loop .inv .1 _ (drawn (c .before .before .before)) .long
 
 returns : tie.Need-returns Inv-loop μ-loop
 returns c =
-    let a = start (c .before .before) .args in
-    let l = c .before .loop in
-    send-all (a .r) (a .law) (a .frames) (a .state) (a .bytes .now) (a .octets .now) (l .n) (l .left) (l .octets) (l .inv _ (drawn (c .before .before))) (omega arith)
+    let a = start (c .before .before .before) .args in
+    let l = c .before .before .loop in
+    let ds = bitsIn (dataBits (a .r) (a .frames)) (a .bytes .now) in
+    let e = c .before .before .before .carry .ensures .0 in
+    let all = send-all (a .r) (a .law) (a .frames) _ (a .bytes .now) (a .octets .now) (l .n) (stateOf (l .line)) (l .octets) (l .inv .1 _ (drawn (c .before .before .before))) (omega arith) in (
+      c .state-of .ensures ∙ all .0 ∙ ap (λ (st : LineState). sendAfter (a .r) (a .frames) st ds) e,
+      all .1 ∙ ap (λ (st : LineState). over (sendFrames (a .r) (a .law) (a .frames) st ds) (a .octets .now)) e,
+    )
 
 pub send-frames-spec : {M : Type 1} → statement M
 send-frames-spec =
@@ -117,7 +139,9 @@ send-frames-spec =
     Inv-loop
     μ-loop
     draw-up-requires
+    reciprocals-of-requires
     frame-width-requires
+    carry-requires
     loop-holds
     mul-field-at
     field-at-requires
@@ -130,5 +154,6 @@ send-frames-spec =
     add-n
     loop-less
     loop-again
+    state-of-requires
     same-length
     returns)

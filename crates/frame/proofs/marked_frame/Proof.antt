@@ -1,15 +1,19 @@
--- The descrambler takes the zeros into the history. Assumes nothing.
+-- Zeros go into the history. Assumes nothing.
+use borrow.Author.Needs.{needs}
 use mathlib.Core.Path.{refl, ap, _∙_}
+use mathlib.Core.Bool.{Bool}
+use mathlib.Core.List.{List}
 use Rattle.standard.specs.Scrambler.{pushAll}
 use Rattle.standard.proofs.Words.{zero-bits}
+use Rattle.frame.specs.Past.{turned}
 use Rattle.frame.proofs.marked_frame.Statement.{statement}
 use Rattle.frame.proofs.marked_frame.Tie as tie
 
-descramble-bits-requires : tie.Need-descramble-bits-requires
-descramble-bits-requires c κs = (c .pre .1, c .pre .0)
+past-after-requires : tie.Need-past-after-requires
+past-after-requires c κs = search needs
 
 returns : tie.Need-returns
-returns c = let a = c .before .args in (refl, c .descramble-bits .ensures .1 ∙ ap (pushAll (a .state .history)) (zero-bits (a .width)), refl, refl)
+returns c = (refl, c .past-after .ensures ∙ ap (λ (bs : List Bool). turned (pushAll (turned (c .before .args .line .past)) bs)) (zero-bits (c .before .args .width)), refl, refl)
 
 pub marked-frame-spec : {M : Type 1} → statement M
-marked-frame-spec = tie.close (tie.spec descramble-bits-requires returns)
+marked-frame-spec = tie.close (tie.spec past-after-requires returns)

@@ -1,6 +1,6 @@
 -- All bits at once, by the stream of bits. Assumes nothing.
-use native.Mathlib.Omega.{arith}
 use borrow.Author.Needs.{needs}
+use native.Mathlib.Omega.{arith}
 use lib.Pow.{pow-pos}
 use Rattle.standard.proofs.Words.{one-shifted}
 use Rattle.frame.proofs.Stream.{descrambled}
@@ -19,7 +19,7 @@ past-after-requires c κs = search needs
 returns : tie.Need-returns
 returns c =
     let a = c .before .args in
-    (rw (one-shifted (a .count) (omega arith)) (descrambled (a .past) (a .line) (c .before .pre .0) (a .count) (c .before .pre .1)), c .past-after .ensures)
+    (rw (one-shifted (a .count) (omega arith)) (descrambled (a .past) (a .line) (c .before .pre .0) (a .count) (c .before .pre .2)), c .past-after .ensures)
 
 pub descramble-past-spec : {M : Type 1} → statement M
 descramble-past-spec = tie.close (tie.spec shl-plain rem-plain past-after-requires returns)

@@ -1,38 +1,48 @@
--- The first 18 bits and those that follow, joined. Assumes nothing.
-use Prim.Native.Nat.{_-_}
-use native.Mathlib.Omega.{arith}
+-- Three steps of the scrambler, joined, and of their 48 bits the first. Assumes nothing.
 use borrow.Author.Needs.{needs}
-use Rattle.frame.proofs.Stream.{scrambled-lt, scrambled-join}
+use mathlib.Core.Path.{refl}
+use Prim.Native.Nat.{_/_, _^_}
+use native.Mathlib.Omega.{arith}
+use lib.Pow.{pow-pos}
+use Rattle.standard.proofs.Words.{one-shifted}
+use Rattle.frame.proofs.Stream.{scrambled-lt, scrambled-join, scrambled-first}
 use Rattle.frame.proofs.scrambler.scramble_past.Statement.{statement}
 use Rattle.frame.proofs.scrambler.scramble_past.Tie as tie
-
-scramble-twice-requires : tie.Need-scramble-twice-requires
-scramble-twice-requires c κs = search needs
-
-returns : tie.Need-returns
-returns c = search needs
 
 scramble-some-requires : tie.Need-scramble-some-requires
 scramble-some-requires c κs = search needs
 
-sub-scramble-twice : tie.Need-sub-scramble-twice
-sub-scramble-twice c = search needs
+scramble-some-requires-2 : tie.Need-scramble-some-requires-2
+scramble-some-requires-2 c κs = (scrambled-lt (c .scramble-some .ensures) .1, omega arith)
 
-scramble-twice-requires-2 : tie.Need-scramble-twice-requires-2
-scramble-twice-requires-2 c κs = (scrambled-lt (c .scramble-some .ensures) .1, omega arith)
+scramble-some-requires-3 : tie.Need-scramble-some-requires-3
+scramble-some-requires-3 c κs = (scrambled-lt (c .scramble-some2 .ensures) .1, omega arith)
 
-returns-2 : tie.Need-returns-2
-returns-2 c =
-    let a = c .before .before .before .before .before .args in
-    scrambled-join (a .past) (a .bits) 18 (a .count - 18) (a .count) _ _ _ _ (omega arith) (omega arith) (c .before .before .before .scramble-some .ensures) (c .before .before .scramble-twice2 .ensures)
+shl-sent : tie.Need-shl-sent
+shl-sent c = search needs
+
+rem-sent : tie.Need-rem-sent
+rem-sent c = let n = c .before .before .before .before .before .before .args .count in rw (one-shifted n (omega arith)) (pow-pos n)
+
+past-after-requires : tie.Need-past-after-requires
+past-after-requires c κs = search needs
+
+returns : tie.Need-returns
+returns c =
+    let a = c .before .before .before .before .before .before .before .args in
+    let n = a .count in
+    let rest = scrambled-join _ (a .bits / 2 ^ 18) 18 12 30 _ _ _ _ refl (omega arith) (c .before .before .before .before .before .scramble-some2 .ensures) (c .before .before .before .before .scramble-some3 .ensures) in
+    let all = scrambled-join (a .past) (a .bits) 18 30 48 _ _ _ _ refl (omega arith) (c .before .before .before .before .before .before .scramble-some .ensures) rest in
+    scrambled-first (a .past) (a .bits) n 48 _ _ _ _ (c .before .before .before .before .before .before .before .pre .2) all (one-shifted n (omega arith)) (c .past-after .ensures)
 
 pub scramble-past-spec : {M : Type 1} → statement M
 scramble-past-spec =
     tie.close
     (tie.spec
-    scramble-twice-requires
-    returns
     scramble-some-requires
-    sub-scramble-twice
-    scramble-twice-requires-2
-    returns-2)
+    scramble-some-requires-2
+    scramble-some-requires-3
+    shl-sent
+    rem-sent
+    past-after-requires
+    returns)

@@ -1,11 +1,11 @@
 -- Up to 18 bits depend on the past alone. Assumes nothing.
+use borrow.Author.Needs.{needs}
 use mathlib.Core.Path.{ap}
 use Prim.Native.Nat.{ℕ, _%_}
 use native.Mathlib.Omega.{arith}
-use borrow.Author.Needs.{needs}
 use lib.Pow.{pow-pos}
 use Rattle.standard.proofs.Words.{one-shifted}
-use Rattle.frame.proofs.Stream.{mix, scrambled}
+use Rattle.frame.proofs.Stream.{mix, scrambled, after-some}
 use Rattle.frame.proofs.scrambler.scramble_some.Statement.{statement}
 use Rattle.frame.proofs.scrambler.scramble_some.Tie as tie
 
@@ -18,13 +18,17 @@ shl-line c = search needs
 rem-line : tie.Need-rem-line
 rem-line c = rw (one-shifted (c .args .n) (omega arith)) (pow-pos (c .args .n))
 
-past-after-requires : tie.Need-past-after-requires
-past-after-requires c κs = search needs
+shr-t8 : tie.Need-shr-t8
+shr-t8 c = search needs
+
+cast-t5 : tie.Need-cast-t5
+cast-t5 c = search needs
 
 returns : tie.Need-returns
 returns c =
-    let a = c .before .args in
-    scrambled (a .past) (a .bits) (a .n) _ _ (c .before .pre .0) (c .before .pre .1) (ap (λ (x : ℕ). mix (a .bits) (a .past) % x) (one-shifted (a .n) (omega arith))) (c .past-after .ensures)
+    let a = c .args in
+    scrambled (a .past) (a .bits) (a .n) _ _ (c .pre .0) (c .pre .1) (ap (λ (x : ℕ). mix (a .bits) (a .past) % x) (one-shifted (a .n) (omega arith)))
+    (after-some (a .past) _ (c .pre .0) (a .n) (omega arith))
 
 pub scramble-some-spec : {M : Type 1} → statement M
-scramble-some-spec = tie.close (tie.spec cast-line shl-line rem-line past-after-requires returns)
+scramble-some-spec = tie.close (tie.spec cast-line shl-line rem-line shr-t8 cast-t5 returns)

@@ -1,18 +1,18 @@
--- `bits::put_word` meets its contract. The loop's invariant: the first k bytes of the word are put. Assumes nothing.
+-- After j turns the first j bytes of the word are put. Assumes nothing.
 use mathlib.Core.Path.{_≡_, refl, sym, ap, _∙_}
 use Prim.Native.Nat.{ℕ, _+_, _-_, _*_, _/_, _^_, _≤_}
 use native.Mathlib.Omega.{arith}
 use lib.ListN.{length}
 use Rattle.bits.specs.PutField.{putField}
 use Rattle.bits.proofs.PutField.{putField-none, putField-step}
-use Rattle.bits.proofs.put_word.Statement.{statement}
-use Rattle.bits.proofs.put_word.Tie as tie
+use Rattle.bits.proofs.put_bytes.Statement.{statement}
+use Rattle.bits.proofs.put_bytes.Tie as tie
 
 abbrev Inv-loop : tie.InvT-loop
-Inv-loop bytes₀ i word k₀ bytes k = (k ≤ 8) × (length bytes ≡ length bytes₀) × (bytes ≡ putField bytes₀ (8 * i) (8 * k) word)
+Inv-loop bytes₀ i k word j₀ bytes j = (j ≤ k) × (length bytes ≡ length bytes₀) × (bytes ≡ putField bytes₀ (8 * i) (8 * j) word)
 
 abbrev μ-loop : tie.MeasureT-loop
-μ-loop bytes₀ i word k₀ bytes k = 8 - k
+μ-loop bytes₀ i k word j₀ bytes j = k - j
 
 loop-holds : tie.Need-loop-holds Inv-loop μ-loop
 loop-holds c =
@@ -31,8 +31,8 @@ shr-put-byte c = omega arith
 put-byte-requires : tie.Need-put-byte-requires Inv-loop μ-loop
 put-byte-requires c κs = omega arith
 
-add-k : tie.Need-add-k Inv-loop μ-loop
-add-k c = omega arith
+add-j : tie.Need-add-j Inv-loop μ-loop
+add-j c = omega arith
 
 loop-less : tie.Need-loop-less Inv-loop μ-loop
 loop-less c = omega arith
@@ -42,12 +42,12 @@ loop-again c =
     let a = c .before .before .before .before .before .before .before .args in
     let l = c .before .before .before .before .before .loop in
     let call = c .before .before .put-byte in
-    let p : 8 * (a .i + l .k) ≡ 8 * a .i + 8 * l .k = omega arith in
-    let n : 8 * l .k + 8 ≡ 8 * (l .k + 1) = omega arith in (
+    let p : 8 * (a .i + l .j) ≡ 8 * a .i + 8 * l .j = omega arith in
+    let n : 8 * l .j + 8 ≡ 8 * (l .j + 1) = omega arith in (
       omega arith,
       call .kept .0 ∙ l .inv .1,
-      putField-step (a .bytes .now) (l .bytes) (call .last .0) (8 * a .i) (8 * l .k) 8 (a .word) (l .inv .2)
-          (call .ensures ∙ ap (λ (q : ℕ). putField (l .bytes) q 8 (a .word / 2 ^ (8 * l .k))) p) ∙ ap (λ (k : ℕ). putField (a .bytes .now) (8 * a .i) k (a .word)) n,
+      putField-step (a .bytes .now) (l .bytes) (call .last .0) (8 * a .i) (8 * l .j) 8 (a .word) (l .inv .2)
+          (call .ensures ∙ ap (λ (q : ℕ). putField (l .bytes) q 8 (a .word / 2 ^ (8 * l .j))) p) ∙ ap (λ (k : ℕ). putField (a .bytes .now) (8 * a .i) k (a .word)) n,
     )
 
 same-length : tie.Need-same-length Inv-loop μ-loop
@@ -56,11 +56,11 @@ same-length c = c .before .loop .inv .1
 returns : tie.Need-returns Inv-loop μ-loop
 returns c =
     let a = c .before .before .before .args in
-    let e : 8 * c .before .loop .k ≡ 64 = omega arith in
+    let e : 8 * c .before .loop .j ≡ 8 * a .k = omega arith in
     c .before .loop .inv .2 ∙ ap (λ (k : ℕ). putField (a .bytes .now) (8 * a .i) k (a .word)) e
 
-pub put-word-spec : {M : Type 1} → statement M
-put-word-spec =
+pub put-bytes-spec : {M : Type 1} → statement M
+put-bytes-spec =
     tie.close
     (tie.spec
     Inv-loop
@@ -70,7 +70,7 @@ put-word-spec =
     mul-put-byte
     shr-put-byte
     put-byte-requires
-    add-k
+    add-j
     loop-less
     loop-again
     same-length

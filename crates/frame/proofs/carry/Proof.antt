@@ -1,0 +1,20 @@
+-- Turned twice it is the history. Assumes nothing.
+use borrow.Author.Needs.{needs}
+use mathlib.Core.Path.{ap, _∙_}
+use Prim.Native.Nat.{ℕ}
+use Rattle.frame.specs.Past.{turned}
+use Rattle.frame.proofs.Stream.{turned-lt, turned-back}
+use Rattle.frame.proofs.carry.Statement.{statement}
+use Rattle.frame.proofs.carry.Tie as tie
+
+turn-requires : tie.Need-turn-requires
+turn-requires c κs = search needs
+
+returns : tie.Need-returns
+returns c =
+    let b = c .before in
+    let s = b .args .state in
+    (ap (λ (h : ℕ). record { history = h; sign = s .sign }) (ap turned (c .turn .ensures) ∙ turned-back (s .history) (b .pre)), rw (c .turn .ensures) (turned-lt (s .history)))
+
+pub carry-spec : {M : Type 1} → statement M
+carry-spec = tie.close (tie.spec turn-requires returns)
