@@ -1,6 +1,7 @@
-/* Frames per second of the proved codec and of the plain one, and their ratio. With PLAIN_ONLY the plain
-   codec alone. Each round makes many calls on buffers written before; the best of some rounds counts.
-   Seconds are those of the processor, so that other programs disturb little. */
+/* How many frames, octets or CPs a second the proved codec and the plain one manage, and the ratio of the two.
+   Both run in this one process on buffers written before. A round times one codec and then the other, the first
+   of them in turn; the first rounds warm up and do not count. Each figure is the median of the rounds that do, and
+   beside the ratio stand its quartiles. Seconds are those of the processor, so that other programs disturb little. */
 #define _POSIX_C_SOURCE 199309L
 #include "plain/plain.h"
 #include "v91.h"
@@ -10,28 +11,101 @@
 #include <string.h>
 #include <time.h>
 
-enum { ROUNDS = 15 };
+enum { PLAIN, PROVED, CODECS, WARM_UP = 3, ROUNDS = 41, CP_BYTES = 122, OCTETS = 6 * V91_FRAMES };
 
-struct codec {
+static const struct codec {
     uint32_t (*send)(const uint8_t *, size_t, bool, size_t, const uint8_t *, size_t,
                      uint8_t *, size_t, uint8_t *, size_t);
     uint32_t (*receive)(const uint8_t *, size_t, bool, size_t, const uint8_t *, size_t,
                         uint8_t *, size_t, uint8_t *, size_t, uint8_t *, size_t);
+    uint32_t (*linear)(bool, const uint8_t *, size_t, int32_t *, size_t);
+    uint32_t (*read_cp)(const uint8_t *, size_t, size_t, uint8_t *, size_t);
+    uint32_t (*write_cp)(const uint8_t *, size_t, uint8_t *, size_t);
+} codecs[CODECS] = {
+    { plain_send, plain_receive, plain_linear, plain_read_cp, plain_write_cp },
+    { v91_send, v91_receive, v91_linear, v91_read_cp, v91_write_cp },
 };
 
-static const struct codec codecs[] = {
-    { plain_send, plain_receive },
-#ifndef PLAIN_ONLY
-    { v91_send, v91_receive },
-#endif
-};
+/* What the calls read, and what each codec writes. */
+static uint8_t record[V91_RECORD_BYTES], bits[OCTETS], line[OCTETS], cp[CP_BYTES];
+static size_t count, bits_len, cp_bits;
+static struct written {
+    uint8_t octets[OCTETS], heard[OCTETS], marks[V91_FRAMES], state[V91_STATE_BYTES];
+    uint8_t record[V91_RECORD_BYTES], cp[CP_BYTES];
+    int32_t samples[OCTETS];
+} written[CODECS];
 
-enum { CODECS = sizeof codecs / sizeof codecs[0] };
+static uint32_t send_call(const struct codec *codec, struct written *to)
+{
+    return codec->send(record, sizeof record, false, count, bits, bits_len,
+                       to->octets, 6 * count, to->state, sizeof to->state);
+}
 
-static uint8_t record[V91_RECORD_BYTES];
-static uint8_t bits[6 * V91_FRAMES], line[6 * V91_FRAMES];
-static uint8_t octets[CODECS][6 * V91_FRAMES], heard[CODECS][6 * V91_FRAMES];
-static uint8_t marks[CODECS][V91_FRAMES], state[CODECS][V91_STATE_BYTES];
+static uint32_t receive_call(const struct codec *codec, struct written *to)
+{
+    return codec->receive(record, sizeof record, false, count, line, 6 * count,
+                          to->heard, bits_len, to->marks, count, to->state, sizeof to->state);
+}
+
+static uint32_t linear_call(const struct codec *codec, struct written *to)
+{
+    return codec->linear(false, line, count, to->samples, count);
+}
+
+static uint32_t read_call(const struct codec *codec, struct written *to)
+{
+    return codec->read_cp(cp, sizeof cp, cp_bits, to->record, sizeof to->record);
+}
+
+static uint32_t write_call(const struct codec *codec, struct written *to)
+{
+    return codec->write_cp(record, sizeof record, to->cp, sizeof to->cp) - (uint32_t)cp_bits;
+}
+
+static double now(void)
+{
+    struct timespec t;
+    clock_gettime(CLOCK_PROCESS_CPUTIME_ID, &t);
+    return (double)t.tv_sec + 1e-9 * (double)t.tv_nsec;
+}
+
+static int ascending(const void *one, const void *other)
+{
+    double a = *(const double *)one, b = *(const double *)other;
+    return (a > b) - (a < b);
+}
+
+/* Times `calls` calls of each codec, round after round; `each` is how many things a call does. */
+static void measure(const char *entry, unsigned size, size_t each,
+                    uint32_t (*call)(const struct codec *, struct written *), size_t calls)
+{
+    double rate[CODECS][ROUNDS], ratio[ROUNDS];
+
+    memset(written, 0, sizeof written);
+    for (int round = -WARM_UP; round < ROUNDS; round++) {
+        int at = round < 0 ? 0 : round;
+        for (int turn = 0; turn < CODECS; turn++) {
+            int c = (round + WARM_UP + turn) % CODECS;
+            double begun = now();
+            for (size_t n = 0; n < calls; n++)
+                if (call(&codecs[c], &written[c]) != 0) {
+                    fprintf(stderr, "bench: %s was refused\n", entry);
+                    exit(1);
+                }
+            rate[c][at] = (double)(calls * each) / (now() - begun);
+        }
+        ratio[at] = rate[PROVED][at] / rate[PLAIN][at];
+    }
+    if (memcmp(&written[PLAIN], &written[PROVED], sizeof written[PLAIN]) != 0) {
+        fprintf(stderr, "bench: the two codecs differ in %s\n", entry);
+        exit(1);
+    }
+    for (int c = 0; c < CODECS; c++)
+        qsort(rate[c], ROUNDS, sizeof rate[c][0], ascending);
+    qsort(ratio, ROUNDS, sizeof ratio[0], ascending);
+    printf("%-8s %4u %6zu %10.2f %10.2f %7.2f  %.2f to %.2f\n", entry, size, each, 1e-6 * rate[PLAIN][ROUNDS / 2],
+           1e-6 * rate[PROVED][ROUNDS / 2], ratio[ROUNDS / 2], ratio[ROUNDS / 4], ratio[ROUNDS - 1 - ROUNDS / 4]);
+}
 
 /* Six masks of the least size that K allows, their Ucodes spread out and unlike each other. */
 static void make_record(unsigned k)
@@ -50,89 +124,53 @@ static void make_record(unsigned k)
     }
 }
 
-static void call(int c, bool sending, size_t frames)
+/* A record of g + 1 masks. */
+static void make_masks(unsigned g)
 {
-    uint32_t refusal;
-    if (sending)
-        refusal = codecs[c].send(record, sizeof record, false, frames, bits, sizeof bits,
-                                 octets[c], sizeof octets[c], state[c], sizeof state[c]);
-    else
-        refusal = codecs[c].receive(record, sizeof record, false, frames, line, sizeof line,
-                                    heard[c], sizeof heard[c], marks[c], sizeof marks[c],
-                                    state[c], sizeof state[c]);
-    if (refusal) {
-        fprintf(stderr, "bench: a call was refused with %u\n", (unsigned)refusal);
-        exit(1);
-    }
+    make_record(24);
+    for (unsigned i = 0; i < 6; i++)
+        record[3 + i] = (uint8_t)(i < g ? i : g);
+    memset(record + 9 + 16 * (g + 1), 0, 16 * (5 - g));
+    cp_bits = plain_write_cp(record, sizeof record, cp, sizeof cp);
 }
 
-static double now(void)
-{
-    struct timespec t;
-    clock_gettime(CLOCK_PROCESS_CPUTIME_ID, &t);
-    return (double)t.tv_sec + 1e-9 * (double)t.tv_nsec;
-}
-
-/* Frames per second in one round. */
-static double one_round(int c, bool sending, size_t frames)
-{
-    size_t calls = ((size_t)1 << 19) / (frames + 63);
-    double begun = now();
-    for (size_t n = 0; n < calls; n++)
-        call(c, sending, frames);
-    return (double)(calls * frames) / (now() - begun);
-}
-
-static void same(const void *one, const void *other, size_t count)
-{
-    if (memcmp(one, other, count) != 0) {
-        fprintf(stderr, "bench: the two codecs differ\n");
-        exit(1);
-    }
-}
-
-static void measure(bool sending, unsigned k, size_t frames)
-{
-    double best[2] = { 0, 0 };
-    memset(state, 0, sizeof state);
-    for (int round = 0; round < ROUNDS; round++)
-        for (int c = 0; c < CODECS; c++) {
-            double rate = one_round(c, sending, frames);
-            if (rate > best[c])
-                best[c] = rate;
-        }
-    for (int c = 1; c < CODECS; c++) {
-        same(octets[0], octets[c], sizeof octets[0]);
-        same(heard[0], heard[c], sizeof heard[0]);
-        same(marks[0], marks[c], sizeof marks[0]);
-        same(state[0], state[c], sizeof state[0]);
-    }
-    printf("%-8s %3u %6zu %12.0f", sending ? "send" : "receive", k, frames, best[0]);
-    if (CODECS == 2)
-        printf(" %12.0f %7.2f", best[1], best[1] / best[0]);
-    printf("\n");
-}
-
-int main(void)
+static void frames(const char *entry, uint32_t (*call)(const struct codec *, struct written *))
 {
     static const unsigned ks[] = { 15, 24, 33, 42 };
     static const size_t counts[] = { 1, 32, 1024 };
 
+    for (int i = 0; i < 4; i++) {
+        make_record(ks[i]);
+        count = V91_FRAMES;
+        bits_len = sizeof bits;
+        memset(written, 0, sizeof written);
+        send_call(&codecs[PLAIN], &written[PLAIN]);
+        memcpy(line, written[PLAIN].octets, sizeof line);
+        for (int n = 0; n < 3; n++) {
+            count = counts[n];
+            bits_len = (count * (ks[i] + 6) + 7) / 8;
+            measure(entry, ks[i], count, call, ((size_t)1 << 16) / (count + 31));
+        }
+    }
+}
+
+int main(void)
+{
+    static const size_t counts[] = { 6, 192, 6144 };
+
     for (size_t i = 0; i < sizeof bits; i++)
         bits[i] = (uint8_t)(i * 2654435761u >> 13);
-    printf("entry      K frames      plain/s%s\n", CODECS == 2 ? "     proved/s   ratio" : "");
-    for (int sending = 1; sending >= 0; sending--)
-        for (int i = 0; i < 4; i++) {
-            make_record(ks[i]);
-            memset(state, 0, sizeof state);
-            memset(octets, 0, sizeof octets);
-            memset(heard, 0, sizeof heard);
-            memset(marks, 0, sizeof marks);
-            call(0, true, V91_FRAMES);
-            memcpy(line, octets[0], sizeof line);
-            memset(octets, 0, sizeof octets);
-            for (int n = 0; n < 3; n++)
-                measure(sending, ks[i], counts[n]);
-        }
+    printf("entry    K, g  count    plain/s   proved/s   ratio  quartiles   (millions; frames, octets or CPs)\n");
+    frames("send", send_call);
+    frames("receive", receive_call);
+    for (int n = 0; n < 3; n++) {
+        count = counts[n];
+        measure("linear", 0, count, linear_call, ((size_t)1 << 19) / (count + 31));
+    }
+    for (unsigned g = 0; g < 6; g += 5) {
+        make_masks(g);
+        measure("read_cp", g, 1, read_call, 1000);
+        measure("write_cp", g, 1, write_call, 1000);
+    }
     return 0;
 }
