@@ -1,2 +1,3 @@
+pub mod Crc
 pub mod Reading
 pub mod Writing

@@ -1,17 +1,17 @@
--- Laws of the CRC, of fields and of tests as the reader's code goes through them. Assumes nothing.
+-- Laws of fields and of tests as the reader's code goes through them. Assumes nothing.
 use mathlib.Core.Path.{_≡_, refl, sym, ap, ap₂, _∙_}
-use Prim.Native.Nat.{ℕ, _+_, _*_, _/_, _%_, _≤_}
-use mathlib.Core.Bool.{Bool, cond, not, _||_, Bool·beq}
+use Prim.Native.Nat.{ℕ, _+_, _*_, _/_, _%_, _<_}
+use mathlib.Core.Bool.{Bool, true, false, not}
 use mathlib.Core.List.{List, _++_}
 use native.Mathlib.Nat.{zero-add}
 use native.Mathlib.Omega.{arith}
-use borrow.Author.Tests.{le-ltb}
-use lib.Dec.{eqb}
-use Rattle.standard.specs.Bits.{_⊕_, odd, bitAt, field}
+use native.Mathlib.Decide.{ℕ-discrete}
+use borrow.Author.Tests.{eq-eqb, ne-eqb, not-false}
+use lib.Dec.{eqb, lit<}
+use Rattle.standard.specs.Bits.{bit, bitAt, field}
 use Rattle.standard.specs.First.{Answer, bare, first}
 use Rattle.standard.specs.Lists.{listFrom, any, largest}
 use Rattle.standard.specs.Record.{indexOf, topIndex, noRecord}
-use Rattle.standard.specs.Crc.{crcStep, crcBelow}
 use Rattle.standard.specs.Cp.{runPlace, indexIn, maskBitIn, halfIn, recordIn}
 use Rattle.standard.specs.Refusals.{outcomeAnswer, readTests}
 use Rattle.standard.specs.Calls.{accepted, readCall, readRefusal, readRecord}
@@ -19,24 +19,11 @@ use Rattle.standard.specs.declared.Outcome.{Outcome}
 use Rattle.standard.specs.declared.Outcome.the-variants.{Done, Refused}
 use Rattle.standard.specs.declared.Record.{Record}
 use Rattle.standard.specs.declared.Refusal.{Refusal}
-use Rattle.standard.proofs.Bits.{field-ext, field-split}
-use Rattle.standard.proofs.Crc.{crcBelow-next}
-use Rattle.standard.proofs.Lists.{any-next, getD-list, largest-ext}
-use Rattle.standard.proofs.Words.{odd-test}
-use Rattle.standard.proofs.Words.{xor-bits}
+use Rattle.standard.proofs.Bits.{field-bit, field-ext, field-is, field-split}
+use Rattle.standard.proofs.Lists.{any-none, none-any, every-at, T→true, getD-list, largest-ext}
 use Rattle.standard.proofs.Stages.{refused-not, stage-hit, stage-past}
 use Rattle.cp.specs.Stages.{shapeTests, sequenceTests, contentTests}
 use Rattle.cp.specs.Reading.{headIn}
-
--- ---- the CRC
-
--- the code's comparison of a bit with the register's lowest bit
-pub differ-test : (x : ℕ) (b : Bool) → not (Bool·beq (eqb (x % 2) 1) b) ≡ odd x ⊕ b
-differ-test x b = ap (λ (a : Bool). not (Bool·beq a b)) (odd-test x) ∙ xor-bits (odd x) b
-
--- one bit more, from bit 18 on
-pub crc-turn : (f : ℕ → Bool) (n : ℕ) → 18 ≤ n → crcBelow f (n + 1) ≡ cond (eqb (n % 17) 0) (crcBelow f n) (crcStep (crcBelow f n) (f n))
-crc-turn f n h = crcBelow-next f n ∙ ap (λ (b : Bool). cond (b || eqb (n % 17) 0) (crcBelow f n) (crcStep (crcBelow f n) (f n))) (le-ltb n 18 h)
 
 -- ---- fields
 
@@ -70,8 +57,23 @@ half-runs f m q =
 
 -- ---- tests
 
-pub any-up : (f : ℕ → Bool) (n : ℕ) → any f 0 (n + 1) ≡ any f 0 n || f n
-any-up f n = any-next f 0 n ∙ ap (λ (k : ℕ). any f 0 n || f k) (zero-add n)
+ones-bit : (j : ℕ) → j < 17 → bit 0x1ffff j ≡ true
+ones-bit j h = T→true (bit 0x1ffff j) (every-at (bit 0x1ffff) 17 tt j h)
+
+-- one of 17 bits is 0 where they are not the number of 17 ones
+pub ones-test : (f : ℕ → Bool) → not (eqb (field f 0 17) 0x1ffff) ≡ any (λ n. not (f n)) 0 17
+ones-test f = go (ℕ-discrete (field f 0 17) 0x1ffff) (any zero 0 17) refl
+  where
+    zero : ℕ → Bool
+    zero n = not (f n)
+
+    go : Dec (field f 0 17 ≡ 0x1ffff) → (b : Bool) → any zero 0 17 ≡ b → not (eqb (field f 0 17) 0x1ffff) ≡ any zero 0 17
+    go (yes e) b q =
+        ap not (eq-eqb (field f 0 17) 0x1ffff e)
+        ∙ sym (none-any zero 0 17 (λ k l h. ap not (ap f (sym (zero-add k)) ∙ sym (field-bit f 0 17 k (omega arith)) ∙ ap (λ (x : ℕ). bit x k) e ∙ ones-bit k (omega arith))))
+    go (no n) true q = ap not (ne-eqb (field f 0 17) 0x1ffff n) ∙ sym q
+    go (no n) false q =
+        absurd (n (field-is f 0 17 0x1ffff (λ j l. not-false (f (0 + j)) (any-none zero 0 17 q (0 + j) (omega arith) (omega arith)) ∙ sym (ones-bit j l)) (lit< tt)))
 
 -- ---- the record
 

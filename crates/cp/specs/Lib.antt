@@ -1,3 +1,4 @@
 pub mod Stages
 pub mod Reading
 pub mod Writing
+pub mod Crc

@@ -5,13 +5,12 @@ use standard::Outcome;
 use standard::Record;
 use standard::Refusal;
 ghost use mathlib.Core.Path.{_≡_};
-ghost use mathlib.Core.Bool.{cond};
-ghost use Prim.Native.Nat.{_+_, _*_, _%_, _^_, _<_, _≤_};
-ghost use lib.Dec.{eqb, ltb};
+ghost use Prim.Native.Nat.{_+_, _*_, _^_, _<_, _≤_};
+ghost use lib.Dec.{ltb};
 ghost use lib.ListN.{length, drop, replicate};
-ghost use Rattle.standard.specs.Lists.{listFrom};
+ghost use Rattle.standard.specs.Lists.{listFrom, after};
 ghost use Rattle.standard.specs.First.{first};
-ghost use Rattle.standard.specs.Bits.{weight, bitAt, field};
+ghost use Rattle.standard.specs.Bits.{weight, bitAt, field, bitsOf};
 ghost use Rattle.standard.specs.Record.{topIndex, noRecord};
 ghost use Rattle.standard.specs.Crc.{crcStep, crcBelow};
 ghost use Rattle.standard.specs.Cp.{gamma, cpLength, cpByteCount, runPlace, headFields, maskFields, cpBytes, indexIn, halfIn, recordIn, crcMatches, startBitSet};
@@ -20,6 +19,7 @@ ghost use Rattle.standard.specs.Calls.{readCall, readRefusal, readRecord, write
 ghost use Rattle.bits.specs.PutField.{putField};
 ghost use Rattle.cp.specs.Stages.{shapeTests, sequenceTests, contentTests};
 ghost use Rattle.cp.specs.Reading.{headIn};
+ghost use Rattle.cp.specs.Crc.{crcZeros};
 ghost use Rattle.cp.specs.Writing.{putFields, runOf};
 
 // The bits of a CP whose largest index is g.
@@ -30,37 +30,34 @@ fn cp_length(g: usize) -> usize
     (289 + 136 * g + 5) / 6 * 6
 }
 
-// The CRC register after one more bit.
-fn crc_step(register: u16, b: bool) -> u16
-    ensures { λ x. ⌜ x ≡ crcStep register b ⌝ }
+// The CRC register after eight zero bits.
+fn crc_eight(register: u16) -> u16
+    ensures { λ x. ⌜ x ≡ crcZeros 8 register ⌝ }
 {
-    if (register % 2 == 1) != b {
-        return (register / 2) ^ 0x8408;
-    }
-    register / 2
+    let low = register % 256;
+    let mixed = (low ^ (low << 4)) % 256;
+    (mixed << 8) ^ (mixed << 3) ^ (mixed >> 4) ^ (register >> 8)
 }
 
-// The CRC register after bit n, which it does not take if n is the number of a start bit.
-fn crc_next(register: u16, n: usize, b: bool) -> u16
-    ensures { λ x. ⌜ x ≡ cond (eqb (n % 17) 0) register (crcStep register b) ⌝ }
+// The CRC register after the 16 bits of a word: XOR takes them, lowest first, and as many zero bits follow.
+fn crc_word(register: u16, word: u16) -> u16
+    ensures { λ x. ⌜ x ≡ after crcStep register (bitsOf 16 word) ⌝ }
 {
-    if n % 17 == 0 {
-        return register;
-    }
-    crc_step(register, b)
+    crc_eight(crc_eight(register ^ word))
 }
 
-// The CRC of bits 18 to 271 + γ.
+// The CRC of bits 18 to 271 + γ, which are 16-bit words, each after a start bit.
 fn crc_of(cp: &[u8], g: usize) -> u16
     requires { ⌜ g ≤ 5 ⌝ }
     ensures { λ x. ⌜ x ≡ crcBelow (bitAt (now (cp .entry))) (272 + gamma g) ⌝ }
 {
-    let end = 272 + 136 * g;
+    let words = 15 + 8 * g;
     let mut register: u16 = 0xffff;
-    let mut n = 18;
-    while n < end {
-        register = crc_next(register, n, bits::bit_at(cp, n));
-        n += 1;
+    let mut i = 0;
+    while i < words {
+        let word = bits::field_at(cp, 18 + 17 * i, 16) as u16;
+        register = crc_word(register, word);
+        i += 1;
     }
     register
 }
@@ -152,13 +149,7 @@ fn record_in(cp: &[u8]) -> Record
 fn sync_broken(cp: &[u8]) -> bool
     ensures { λ x. ⌜ x ≡ syncBroken (bitAt (now (cp .entry))) ⌝ }
 {
-    let mut found = false;
-    let mut n = 0;
-    while n < 17 {
-        found = found | !bits::bit_at(cp, n);
-        n += 1;
-    }
-    found
+    bits::field_at(cp, 0, 17) != 0x1ffff
 }
 
 // Refusal 6: a start bit is 1. They are the multiples of 17 from 17 to 272 + γ.

@@ -14,9 +14,8 @@ use Rattle.standard.specs.Bits.{bit, nth, numberOf, bitsOf}
 use Rattle.standard.specs.Signs.{signsOf, signBits}
 use Rattle.standard.proofs.Lists.{every, every-at, length-listFrom, listFrom-snoc, getD-list}
 use Rattle.standard.proofs.Bits.{bits-back}
-use Rattle.standard.proofs.Words.{number-bit}
+use Rattle.standard.proofs.Words.{bits-ext, number-bit}
 use Rattle.bits.proofs.Bits.{low-bit}
-use Rattle.frame.proofs.Stream.{bits-ext}
 
 -- ---- both codings, as code makes them of six bits
 

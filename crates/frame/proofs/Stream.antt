@@ -4,7 +4,6 @@ use Prim.Native.Nat.{ℕ, zero, suc, _+_, _-_, _*_, _%_, _/_, _^_, _≤_, _<_}
 use mathlib.Core.Bool.{Bool, true, false}
 use mathlib.Core.List.{List, [], _∷_, _++_}
 use native.Mathlib.Nat.{zero-add, suc-add, add-comm, mul-comm, div-one, mod-lt}
-use native.Mathlib.Numerals.{one-add}
 use native.Mathlib.Omega.{arith}
 use lib.Bits.{bitOr, bitXor, xor-shr, or-shifted-r}
 use lib.ListN.{length}
@@ -13,22 +12,11 @@ use Rattle.standard.specs.Bits.{_⊕_, weight, positive, odd, bit, field, numbe
 use Rattle.standard.specs.Scrambler.{taps, push, pushAll, scramble, descramble}
 use Rattle.standard.proofs.Bits.{xor-cancel, weight-lt, odd-weight, weight-odd, bit-suc, field-lt, field-bit, field-ext, field-is, numberOf-lt, length-bitsOf, bits-back, field-split}
 use Rattle.standard.proofs.Scrambler.{length-scramble, scramble-append, pushAll-append, pushAll-lt}
-use Rattle.standard.proofs.Words.{number-append, bits-number}
+use Rattle.standard.proofs.Words.{half, bits-ext, number-append, bits-number}
 use Rattle.bits.proofs.Bits.{low-bit, down-bit, xor-bit}
 use Rattle.frame.specs.Past.{inTime, turned, Scrambled}
 
 -- ---- bits of numbers, as lists
-
--- numbers with the same bits below k
-pub bits-ext : (k x y : ℕ) → ((j : ℕ) → j < k → bit x j ≡ bit y j) → bitsOf k x ≡ bitsOf k y
-unfolding bitsOf
-bits-ext zero x y h = refl
-bits-ext (suc k) x y h =
-    ap₂ _∷_ (ap odd (sym (div-one x)) ∙ h 0 (omega arith) ∙ ap odd (div-one y))
-    (bits-ext k (x / 2) (y / 2) (λ j l. sym (bit-suc x j) ∙ h (suc j) (omega arith) ∙ bit-suc y j))
-
-half : (x k : ℕ) → x / 2 / 2 ^ k ≡ x / 2 ^ suc k
-half x k = shr-shr x 1 k ∙ ap (λ (n : ℕ). x / 2 ^ n) (one-add k)
 
 bits-split : (m n d : ℕ) → bitsOf (m + n) d ≡ bitsOf m d ++ bitsOf n (d / 2 ^ m)
 unfolding bitsOf

@@ -1,9 +1,8 @@
 -- Laws of the CRC. Assumes nothing.
-use mathlib.Core.Path.{_≡_, refl, ap, ap₂}
-use Prim.Native.Nat.{ℕ, zero, suc, _+_, _-_, _/_, _<_, _^_}
+use mathlib.Core.Path.{_≡_, refl, ap₂}
+use Prim.Native.Nat.{ℕ, zero, suc, _-_, _/_, _<_, _^_}
 use mathlib.Core.Bool.{Bool, true, false, cond}
 use mathlib.Core.List.{[], _∷_}
-use native.Mathlib.Numerals.{add-one}
 use native.Mathlib.Omega.{arith}
 use lib.Bits.{bitXor, xor-lt}
 use lib.Dec.{lit<}
@@ -27,10 +26,6 @@ pub crcBelow-lt : (f : ℕ → Bool) (n : ℕ) → crcBelow f n < 2 ^ 16
 unfolding crcBelow
 crcBelow-lt f zero = lit< tt
 crcBelow-lt f (suc n) = cond-lt (outsideCrc n) (crcBelow f n) (crcStep (crcBelow f n) (f n)) (2 ^ 16) (crcBelow-lt f n) (crcStep-lt (crcBelow f n) (f n) (crcBelow-lt f n))
-
-pub crcBelow-next : (f : ℕ → Bool) (n : ℕ) → crcBelow f (n + 1) ≡ cond (outsideCrc n) (crcBelow f n) (crcStep (crcBelow f n) (f n))
-unfolding crcBelow
-crcBelow-next f n = ap (crcBelow f) (add-one n)
 
 pub crcBelow-ext : (f g : ℕ → Bool) (n : ℕ) → ((k : ℕ) → k < n → f k ≡ g k) → crcBelow f n ≡ crcBelow g n
 unfolding crcBelow

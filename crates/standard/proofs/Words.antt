@@ -104,6 +104,18 @@ held-more {bs} {bs′} {w} {w′} {n} b k e q =
 
 -- ---- the bits of a number, and the number of bits
 
+-- the half of a number, shifted down
+pub half : (x k : ℕ) → x / 2 / 2 ^ k ≡ x / 2 ^ suc k
+half x k = shr-shr x 1 k ∙ ap (λ (n : ℕ). x / 2 ^ n) (one-add k)
+
+-- numbers with the same bits below k
+pub bits-ext : (k x y : ℕ) → ((j : ℕ) → j < k → bit x j ≡ bit y j) → bitsOf k x ≡ bitsOf k y
+unfolding bitsOf
+bits-ext zero x y h = refl
+bits-ext (suc k) x y h =
+    ap₂ _∷_ (ap odd (sym (div-one x)) ∙ h 0 (omega arith) ∙ ap odd (div-one y))
+    (bits-ext k (x / 2) (y / 2) (λ j l. sym (bit-suc x j) ∙ h (suc j) (omega arith) ∙ bit-suc y j))
+
 pub bits-take : (k n w : ℕ) → k ≤ n → take k (bitsOf n w) ≡ bitsOf k w
 unfolding bitsOf
 bits-take zero n w h = refl
@@ -131,11 +143,8 @@ unfolding numberOf
 number-drop zero bs = div-one (numberOf bs)
 number-drop (suc k) [] = zero-div (2 ^ suc k)
 number-drop (suc k) (b ∷ bs) =
-    let half : (weight b + 2 * numberOf bs) / 2 ≡ numberOf bs = omega (arith, weight-lt b) in
-    ap (λ (j : ℕ). (weight b + 2 * numberOf bs) / 2 ^ j) (sym (one-add k))
-    ∙ sym (shr-shr (weight b + 2 * numberOf bs) 1 k)
-    ∙ ap (λ (x : ℕ). x / 2 ^ k) half
-    ∙ number-drop k bs
+    let e : (weight b + 2 * numberOf bs) / 2 ≡ numberOf bs = omega (arith, weight-lt b) in
+    sym (half (weight b + 2 * numberOf bs) k) ∙ ap (λ (x : ℕ). x / 2 ^ k) e ∙ number-drop k bs
 
 -- a number of k bits is that of its k lowest bits
 pub bits-number : (k n : ℕ) → n < 2 ^ k → numberOf (bitsOf k n) ≡ n
