@@ -14,9 +14,10 @@ use Rattle.standard.specs.Record.{indexOf, halfOf}
 use Rattle.standard.specs.declared.Record.{Record}
 use Rattle.standard.proofs.Lists.{length-listFrom, getD-list, listFrom-is}
 use Rattle.standard.proofs.Bits.{field-bit, field-is, field-number}
-use Rattle.forms.specs.RecordBytes.{halfByte, recordByte, recordBytes, indexAt, halfAt, recordAt}
+use Rattle.forms.specs.RecordBytes.{recordByte, recordBytes, indexAt, halfAt, recordAt}
 use Rattle.forms.specs.StateBytes.{stateByte, stateBytes, stateAt}
 use Rattle.forms.specs.Back.{StateBack, RecordBack}
+use Rattle.forms.proofs.Into.{half-byte}
 
 -- element k of n listed ones with more behind them
 listed-at : (f : ℕ → ℕ) (n : ℕ) (t : List ℕ) (k : ℕ) → k < n → getD (listFrom f 0 n ++ t) k 0 ≡ f k
@@ -65,23 +66,11 @@ module _ (r : Record) (t : List ℕ) where
       let e : 3 + i - 3 ≡ i = omega arith in
       byte (3 + i) (omega arith) ∙ rw (le-ltb (3 + i) 1 (omega arith), le-ltb (3 + i) 2 (omega arith), le-ltb (3 + i) 3 (omega arith), lt-ltb (3 + i) 9 (omega arith), e) refl
 
-  half-byte : (k : ℕ) → k < 96 → getD s (9 + k) 0 ≡ halfByte (r .mask) k
-  unfolding recordByte
-  half-byte k h =
-      let e : 9 + k - 9 ≡ k = omega arith in
-      byte (9 + k) (omega arith) ∙ rw (le-ltb (9 + k) 1 (omega arith), le-ltb (9 + k) 2 (omega arith), le-ltb (9 + k) 3 (omega arith), le-ltb (9 + k) 9 (omega arith), e) refl
-
   half : (h : ℕ) → h < 12 → halfOf r h < 2 ^ 64 → halfAt s h ≡ halfOf r h
   half h l b =
       let p : 8 * (9 + 8 * h) ≡ 72 + 64 * h = omega arith in
       ap (λ (x : ℕ). field (bitAt s) x 64) (sym p)
-      ∙ bytes-hold s (9 + 8 * h) 8 (halfOf r h)
-      (λ q c.
-      let a : 9 + 8 * h + q ≡ 9 + (8 * h + q) = omega arith in
-      let d : (8 * h + q) / 8 ≡ h = omega arith in
-      let m : (8 * h + q) % 8 ≡ q = omega arith in
-      ap (λ (x : ℕ). getD s x 0) a ∙ half-byte (8 * h + q) (omega arith) ∙ ap₂ (λ (x y : ℕ). getD (r .mask) x 0 / 2 ^ (8 * y) % 256) d m)
-      b
+      ∙ bytes-hold s (9 + 8 * h) 8 (halfOf r h) (λ q c. byte (9 + 8 * h + q) (omega arith) ∙ half-byte r h q c) b
 
 pub record-back : RecordBack
 unfolding recordAt recordByte

@@ -3,10 +3,11 @@ use standard::LineState;
 use standard::Record;
 ghost use mathlib.Core.Path.{_≡_};
 ghost use Prim.Native.Nat.{_<_, _≤_};
-ghost use lib.ListN.{length};
+ghost use mathlib.Core.List.{_++_};
+ghost use lib.ListN.{length, drop};
 ghost use Rattle.standard.specs.Lists.{listFrom};
 ghost use Rattle.standard.specs.Calls.{over};
-ghost use Rattle.forms.specs.RecordBytes.{halfByte, recordByte, recordBytes, indexAt, halfAt, recordAt};
+ghost use Rattle.forms.specs.RecordBytes.{recordByte, recordBytes, indexAt, halfAt, recordAt};
 ghost use Rattle.forms.specs.StateBytes.{stateByte, stateBytes, stateAt};
 
 // The six indices, from byte 3 on.
@@ -47,35 +48,21 @@ pub fn record_from(bytes: &[u8]) -> Record
     }
 }
 
-// Byte k of the mask halves.
-fn half_byte(mask: [u64; 12], k: usize) -> u8
-    requires { ⌜ k < 96 ⌝ }
-    ensures { λ x. ⌜ x ≡ halfByte mask k ⌝ }
+// Puts what stands before the masks into the first 9 bytes; the others stay.
+fn head_into(r: Record, bytes: &mut [u8])
+    requires { ⌜ 9 ≤ length (now bytes) ⌝ }
+    ensures { λ x. ⌜ now (bytes .exit) ≡ listFrom (recordByte r) 0 9 ++ drop 9 (now (bytes .entry)) ⌝ }
 {
-    let half = mask[k / 8];
-    ((half >> (8 * (k % 8))) % 256) as u8
-}
-
-// Byte k of a record.
-fn byte_of(r: Record, k: usize) -> u8
-    requires { ⌜ k < 105 ⌝ }
-    ensures { λ x. ⌜ x ≡ recordByte r k ⌝ }
-{
-    if k < 1 {
-        return r.granted as u8;
-    }
-    if k < 2 {
-        return r.drn;
-    }
-    if k < 3 {
-        return r.acknowledge as u8;
-    }
-    if k < 9 {
-        let index = r.index;
-        return index[k - 3];
-    }
-    let mask = r.mask;
-    half_byte(mask, k - 9)
+    let index = r.index;
+    bytes[0] = r.granted as u8;
+    bytes[1] = r.drn;
+    bytes[2] = r.acknowledge as u8;
+    bytes[3] = index[0];
+    bytes[4] = index[1];
+    bytes[5] = index[2];
+    bytes[6] = index[3];
+    bytes[7] = index[4];
+    bytes[8] = index[5];
 }
 
 // Puts a record into the first 105 bytes; the others stay.
@@ -83,10 +70,12 @@ pub fn record_into(r: Record, bytes: &mut [u8])
     requires { ⌜ 105 ≤ length (now bytes) ⌝ }
     ensures { λ x. ⌜ now (bytes .exit) ≡ over (recordBytes r) (now (bytes .entry)) ⌝ }
 {
-    let mut k = 0;
-    while k < 105 {
-        bytes[k] = byte_of(r, k);
-        k += 1;
+    head_into(r, bytes);
+    let mask = r.mask;
+    let mut h = 0;
+    while h < 12 {
+        bits::put_word(bytes, 9 + 8 * h, mask[h]);
+        h += 1;
     }
 }
 
