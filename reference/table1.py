@@ -5,8 +5,9 @@ and A-law linear value. The octets are those of the positive codewords. Thirteen
 text have a Cyrillic В or С where the Latin letter is meant: Ucodes 6, 8, 9, 12, 15, 30, 34, 35, 37,
 38, 44, 45 and 52 with the Ucode printed beside each. Here they are Latin.
 
-octet_of reads the printed table, and the codec of the model uses it. octet_by_rule is the rule of
-the same octets as arithmetic; it reads nothing of the table.
+octet_of and value_of read the printed table, and the codec of the model uses it. octet_by_rule and
+value_by_rule are the rules of the same octets and linear values as arithmetic; they read nothing of
+the table.
 """
 
 MU, A = 0, 1
@@ -120,7 +121,26 @@ def ucode_of(law, octet):
     return UCODES[law][octet | 0x80]
 
 
+def value_of(law, ucode):
+    """The printed linear value of a Ucode, which has no sign."""
+    return LINEAR[law][ucode]
+
+
+def value_by_rule(law, ucode):
+    """The linear value of a Ucode by arithmetic: eight Uchords of 16 equal steps each.
+
+    In µ-law the steps are 8, 16, 32 and so on, and Uchord s begins at 132 × (2^s - 1). In A-law
+    they are 16, 16, 32 and so on, and values stand half a step above a multiple of it: the first
+    16 multiples in Uchord 0, the next 16 in each other.
+    """
+    uchord, place = divmod(ucode, 16)
+    if law == MU:
+        return 132 * (2**uchord - 1) + 8 * 2**uchord * place
+    step = 16 * 2 ** max(uchord - 1, 0)
+    return step * (16 * min(uchord, 1) + place) + step // 2
+
+
 def linear_of(law, octet):
     """The table's linear value with the octet's sign."""
-    value = LINEAR[law][ucode_of(law, octet)]
+    value = value_of(law, ucode_of(law, octet))
     return value if octet & 0x80 else -value

@@ -20,7 +20,8 @@ from linear import linear
 from record import EMPTY, EXAMPLE, FULL_MASK, k_of, make, mask_of
 from refusals import ORDER, Refusal, in_order
 from samples import TWO_EMPTY, Draw, a_record, a_sparse_record, a_state
-from table1 import A, MU, linear_of, octet_by_rule, octet_of, rows, ucode_of
+from table1 import (A, MU, linear_of, octet_by_rule, octet_of, rows, ucode_of, value_by_rule,
+                    value_of)
 
 
 def check(holds, what):
@@ -36,22 +37,12 @@ def same(found, wanted, what):
 
 # Table 1
 
-def mu_rule(u):
-    """The µ-law linear value by rule."""
-    return (8 * (u % 16) + 132) * 2 ** (u // 16) - 132
-
-
-def a_rule(u):
-    """The A-law linear value by rule."""
-    s, q = u // 16, u % 16
-    return 16 * q + 8 if s == 0 else (16 * q + 264) * 2 ** (s - 1)
-
-
 def table_1():
-    """The printed rows follow the rule of octets and the linear rule."""
+    """The printed rows follow the rules of octets and of linear values."""
     same([row[0] for row in rows()], list(range(128)), "Ucodes")
-    for u, _, mu_linear, _, a_linear in rows():
-        same((mu_linear, a_linear), (mu_rule(u), a_rule(u)), f"linear values of Ucode {u}")
+    values = list(product((MU, A), range(128)))
+    for case in values:
+        same(value_by_rule(*case), value_of(*case), f"linear value of law, Ucode {case}")
     cases = list(product((MU, A), (1, 0), range(128)))
     for case in cases:
         same(octet_by_rule(*case), octet_of(*case), f"octet of law, sign, Ucode {case}")
@@ -61,7 +52,7 @@ def table_1():
     same((linear_of(MU, 0x7F), linear_of(MU, 0xFF)), (0, 0), "µ-law zeros")
     same(linear(A, b"\xd5\x55", [1, 2, 3]), (None, [8, -8, 3]), "samples")
     same(linear(A, b"\xd5\x55", [1]), (Refusal(17), [1]), "samples declined")
-    return f"128 rows, 256 octets, {len(cases)} by rule"
+    return f"128 rows, 256 octets, {len(cases)} octets and {len(values)} values by rule"
 
 
 # The bench examples of document 01
@@ -783,6 +774,16 @@ def sign_added(law, sign, ucode):
     return octet_by_rule(law, 1, ucode) + 128 * (1 - sign)
 
 
+def uchords_too_high(law, ucode):
+    """In A-law Uchord 1 doubles the steps too."""
+    return value_by_rule(law, ucode) << (law and min(ucode // 16, 1))
+
+
+def with_bias(law, ucode):
+    """The 132 that the µ-law shift needs is left in."""
+    return value_by_rule(law, ucode) + 132 * (1 - law)
+
+
 WRONG_CODECS = {
     "history zeroed on a mark": {"frames.after_mark": history_zeroed},
     "history kept on a mark": {"frames.after_mark": history_kept},
@@ -879,6 +880,10 @@ WRONG_CODECS = {
     "octets with the sign added": {"vectors.octet_by_rule": sign_added},
     "octets of the other law": {"vectors.octet_by_rule": lambda law, sign, ucode:
                                 octet_by_rule(1 - law, sign, ucode)},
+    "values with Uchords too high": {"vectors.value_by_rule": uchords_too_high},
+    "values with the bias": {"vectors.value_by_rule": with_bias},
+    "values of the other law": {"vectors.value_by_rule": lambda law, ucode:
+                                value_by_rule(1 - law, ucode)},
 }
 
 

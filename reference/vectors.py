@@ -11,7 +11,7 @@ import cases_cp
 import cases_frames
 from demo import demo_text
 from forms import answer
-from table1 import linear_of, octet_by_rule, octet_of
+from table1 import octet_by_rule, octet_of, value_by_rule, value_of
 
 CRATES = Path(__file__).resolve().parent.parent / "crates"
 
@@ -24,15 +24,16 @@ def hex_lines(byte_strings):
 def pcm_lines():
     """Table 1 row by row, 512 lines.
 
-    Law, sign, Ucode, the octet as printed, the octet by arithmetic, and the linear value.
+    Law, sign, Ucode, the octet as printed and by arithmetic, the linear value as printed, and the
+    linear value by arithmetic with its sign.
     """
     lines = []
     for law, name in enumerate(("mu", "a")):
         for sign in (1, 0):
             for ucode in range(128):
                 table, octet = octet_of(law, sign, ucode), octet_by_rule(law, sign, ucode)
-                value = linear_of(law, table)
-                lines.append(f"{name} {sign} {ucode} {table:02x} {octet:02x} {value}\n")
+                value, linear = value_of(law, ucode), (2 * sign - 1) * value_by_rule(law, ucode)
+                lines.append(f"{name} {sign} {ucode} {table:02x} {octet:02x} {value} {linear}\n")
     return "".join(lines)
 
 

@@ -1,11 +1,10 @@
-// PCM octets, made by arithmetic on law, sign and Ucode, and their linear values: V.90 Table 1.
+// PCM octets and their linear values, made by arithmetic on law, sign and Ucode: V.90 Table 1.
 use standard::Law;
 use standard::Outcome;
 use standard::Refusal;
-use table1::magnitude_of;
 ghost use mathlib.Core.Path.{_≡_};
-ghost use Prim.Native.Nat.{_%_, _<_};
-ghost use Rattle.standard.specs.Octets.{positiveOctet, octet, signOf, ucodeOf, sampleOf};
+ghost use Prim.Native.Nat.{_%_, _^_, _<_};
+ghost use Rattle.standard.specs.Octets.{positiveOctet, octet, signOf, ucodeOf, magnitude, sampleOf};
 ghost use Rattle.standard.specs.Refusals.{outcomeAnswer};
 ghost use Rattle.standard.specs.Calls.{linearCall, linearRefusal, linearSamples};
 
@@ -38,6 +37,22 @@ pub fn ucode_of(law: Law, octet: u8) -> u8
     ensures { λ r. ⌜ (r ≡ ucodeOf law octet) × (r < 128) ⌝ }
 {
     (octet ^ first_octet(law)) % 128
+}
+
+// The linear value of a Ucode with the positive sign, by its Uchord s and its place q in it.
+fn magnitude_of(law: Law, ucode: u8) -> u32
+    requires { ⌜ ucode < 128 ⌝ }
+    ensures { λ r. ⌜ (r ≡ magnitude law ucode) × (r < 2 ^ 15) ⌝ }
+{
+    let s = (ucode / 16) as u32;
+    let q = (ucode % 16) as u32;
+    match law {
+        Law::Mu => ((8 * q + 132) << s) - 132,
+        Law::A => {
+            let up = (s != 0) as u32;
+            (16 * q + 8 + 256 * up) << (s - up)
+        }
+    }
 }
 
 // The signed linear value of an octet.

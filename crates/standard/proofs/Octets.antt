@@ -1,10 +1,10 @@
--- Laws of octets: both laws of V.90 Table 1, there and back, by one computed test over the table. Assumes nothing.
+-- Laws of octets: both laws of V.90 Table 1, there and back, by one computed test over the table; and of linear values. Assumes nothing.
 use mathlib.Core.Path.{_≡_}
-use Prim.Native.Nat.{ℕ, _<_}
+use Prim.Native.Nat.{ℕ, _^_, _<_}
 use mathlib.Core.Bool.{Bool, true, false, _&&_, Bool·beq}
 use native.Mathlib.Nat.{mod-lt}
 use lib.Dec.{T, eqb, ltb, eqb→eq, ltb→lt, lit<}
-use Rattle.standard.specs.Octets.{positiveOctet, octet, signOf, ucodeOf}
+use Rattle.standard.specs.Octets.{positiveOctet, octet, signOf, ucodeOf, magnitudeIn, magnitude}
 use Rattle.standard.specs.declared.Law.{Law}
 use Rattle.standard.specs.declared.Law.the-variants.{Mu, A}
 use Rattle.standard.proofs.Lists.{every, every-at, and-left, and-right, beq→eq}
@@ -52,3 +52,17 @@ octets-back A = tt
 
 pub octet-back : (l : Law) (o : ℕ) → o < 256 → octet l (signOf o) (ucodeOf l o) ≡ o
 octet-back l o h = eqb→eq (octet l (signOf o) (ucodeOf l o)) o (every-at (octetBack l) 256 (octets-back l) o h)
+
+-- ---- linear values
+
+-- each fits in 15 bits, by one computed test
+abbrev small : Law → ℕ → Bool
+small l u = ltb (magnitude l u) (2 ^ 15)
+
+all-small : (l : Law) → T (every (small l) 128)
+unfolding magnitude magnitudeIn
+all-small Mu = tt
+all-small A = tt
+
+pub magnitude-lt : (l : Law) (u : ℕ) → u < 128 → magnitude l u < 2 ^ 15
+magnitude-lt l u h = ltb→lt (magnitude l u) (2 ^ 15) (every-at (small l) 128 (all-small l) u h)

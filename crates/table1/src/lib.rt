@@ -1,4 +1,4 @@
-// V.90 Table 1 as printed. The codec reads its linear values alone: `pcm::octet_of` makes octets without it.
+// V.90 Table 1 as printed. The codec does not read it: `pcm` makes octets and linear values by arithmetic.
 use standard::Law;
 ghost use mathlib.Core.Path.{_≡_};
 ghost use Prim.Native.Nat.{_%_, _^_, _<_};
@@ -552,8 +552,8 @@ pub fn printed_octet(law: Law, sign: bool, ucode: u8) -> u8
     if sign { positive } else { positive % 128 }
 }
 
-// The linear value of a Ucode with the positive sign.
-pub fn magnitude_of(law: Law, ucode: u8) -> u32
+// The linear value of a Ucode as printed, with the positive sign.
+pub fn printed_magnitude(law: Law, ucode: u8) -> u32
     requires { ⌜ ucode < 128 ⌝ }
     ensures { λ r. ⌜ (r ≡ magnitude law ucode) × (r < 2 ^ 15) ⌝ }
 {

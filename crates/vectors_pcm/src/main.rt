@@ -1,9 +1,12 @@
-// Prints V.90 Table 1, a line for each law, sign and Ucode: LAW SIGN UCODE TABLE OCTET LINEAR, with the octet as printed and the octet by arithmetic.
+// Prints V.90 Table 1, a line for each law, sign and Ucode: LAW SIGN UCODE TABLE OCTET VALUE LINEAR, with the octet as printed and by arithmetic,
+// the linear value as printed, and the signed sample by arithmetic.
 use io::print_decimal;
 use io::print_hex;
 use io::write_all;
 use standard::Law;
+use table1::printed_magnitude;
 use table1::printed_octet;
+ghost use Prim.Native.Nat.{_<_};
 
 // A signed number.
 fn print_signed(value: i32) {
@@ -14,7 +17,9 @@ fn print_signed(value: i32) {
 }
 
 // The line of a Ucode.
-fn print_row(law: Law, name: &[u8], sign: bool, ucode: u8) {
+fn print_row(law: Law, name: &[u8], sign: bool, ucode: u8)
+    requires { ⌜ ucode < 128 ⌝ }
+{
     let octets = [pcm::octet_of(law, sign, ucode)];
     let mut samples = [0i32; 1];
     pcm::linear(law, &octets, &mut samples);
@@ -27,6 +32,8 @@ fn print_row(law: Law, name: &[u8], sign: bool, ucode: u8) {
     print_hex(1, printed_octet(law, sign, ucode) as u64, 2);
     write_all(1, b" ");
     print_hex(1, octets[0] as u64, 2);
+    write_all(1, b" ");
+    print_decimal(1, printed_magnitude(law, ucode) as u64);
     write_all(1, b" ");
     print_signed(samples[0]);
     write_all(1, b"\n");

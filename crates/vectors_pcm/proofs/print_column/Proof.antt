@@ -15,7 +15,7 @@ loop-holds : tie.Need-loop-holds Inv-loop μ-loop
 loop-holds c = omega arith
 
 print-row-requires : tie.Need-print-row-requires Inv-loop μ-loop
-print-row-requires c κs = tt
+print-row-requires c κs = omega arith
 
 add-ucode : tie.Need-add-ucode Inv-loop μ-loop
 add-ucode c = omega arith
