@@ -13,7 +13,7 @@ use lib.ListN.{length, getD}
 use lib.Pow.{pow-pos, pow-mono, shl-exact, shl-shr}
 use Rattle.standard.specs.Bits.{_⊕_, odd, bit, bitAt, field}
 use Rattle.standard.proofs.Lists.{or-none}
-use Rattle.standard.proofs.Bits.{field-lt, field-bit, field-is, field-split}
+use Rattle.standard.proofs.Bits.{field-bit, field-is, field-split}
 use Rattle.standard.proofs.Words.{one-shifted}
 use Rattle.bits.specs.PutField.{bitWith, wordWith, putField}
 use Rattle.bits.proofs.Bits.{low-bit, down-bit, xor-bit, bitAt-byte, bitAt-past}

@@ -1,10 +1,10 @@
 -- Bits of numbers as code tests and sets them, and a number that grows by a bit at the top. Assumes nothing.
 use mathlib.Core.Path.{_≡_, refl, sym, ap, ap₂, _∙_}
 use Prim.Native.Nat.{ℕ, zero, suc, _+_, _*_, _/_, _%_, _^_, _≤_, _<_}
-use mathlib.Core.Bool.{Bool, true, false, not, Bool·beq}
+use mathlib.Core.Bool.{Bool, true, false, not}
 use mathlib.Core.List.{List, [], _∷_, _++_}
 use native.Mathlib.Nat.{not-suc-le-zero, div-one, zero-div, pow-suc, pow-succ', one-mul, mul-comm, mul-assoc}
-use native.Mathlib.Numerals.{add-one, one-add}
+use native.Mathlib.Numerals.{one-add}
 use native.Mathlib.Omega.{arith}
 use borrow.Author.Tests.{ne-eqb}
 use lib.Bits.{bitAnd, bitOr, and-mask, or-shifted-r}
@@ -12,7 +12,7 @@ use lib.Dec.{eqb}
 use lib.ListN.{length, getD, take, drop, replicate, length-append}
 use lib.Pow.{shl-exact, shr-shr}
 use mir.Val.{boolByte}
-use Rattle.standard.specs.Bits.{_⊕_, weight, positive, odd, bit, nth, numberOf, bitsOf}
+use Rattle.standard.specs.Bits.{weight, positive, odd, bit, nth, numberOf, bitsOf}
 use Rattle.standard.proofs.Bits.{weight-lt, weight-odd, bit-suc, numberOf-lt, bits-back}
 
 -- ---- bits as code has them
@@ -20,12 +20,6 @@ use Rattle.standard.proofs.Bits.{weight-lt, weight-odd, bit-suc, number
 pub byte-weight : (b : Bool) → boolByte b ≡ weight b
 byte-weight true = refl
 byte-weight false = refl
-
-pub xor-bits : (a b : Bool) → not (Bool·beq a b) ≡ a ⊕ b
-xor-bits true true = refl
-xor-bits true false = refl
-xor-bits false true = refl
-xor-bits false false = refl
 
 pub odd-test : (n : ℕ) → eqb (n % 2) 1 ≡ odd n
 odd-test n = go (n % 2) (omega arith)
@@ -58,20 +52,6 @@ pub one-shifted : (k : ℕ) → k < 64 → 1 * 2 ^ k % 2 ^ 64 ≡ 2 ^ k
 one-shifted k h = shl-exact 1 k 64 (omega arith) (omega arith) ∙ one-mul (2 ^ k)
 
 -- ---- one bit more
-
-bitsOf-snoc : (k n : ℕ) → bitsOf (suc k) n ≡ bitsOf k n ++ (bit n k ∷ [])
-unfolding bitsOf
-bitsOf-snoc zero n = ap (λ (x : ℕ). odd x ∷ []) (sym (div-one n))
-bitsOf-snoc (suc k) n = ap (λ (bs : List Bool). odd n ∷ bs) (bitsOf-snoc k (n / 2) ∙ ap (λ (b : Bool). bitsOf k (n / 2) ++ (b ∷ [])) (sym (bit-suc n k)))
-
--- a code F of lists of bits that XORs each bit with what p makes of those before it
-pub coded-next : (F : List Bool → List Bool) (p : List Bool → Bool) → ((bs : List Bool) (b : Bool) → F (bs ++ (b ∷ [])) ≡ F bs ++ ((b ⊕ p bs) ∷ []))
-    → (w i : ℕ) (b t : Bool) → b ≡ bit w i → t ≡ p (bitsOf i w) → F (bitsOf (i + 1) w) ≡ F (bitsOf i w) ++ (not (Bool·beq b t) ∷ [])
-coded-next F p snoc w i b t eb et =
-    ap (λ (n : ℕ). F (bitsOf n w)) (add-one i)
-    ∙ ap F (bitsOf-snoc i w)
-    ∙ snoc (bitsOf i w) (bit w i)
-    ∙ ap (λ (x : Bool). F (bitsOf i w) ++ (x ∷ [])) (sym (xor-bits b t ∙ ap₂ _⊕_ eb et))
 
 pub number-append : (a b : List Bool) → numberOf (a ++ b) ≡ numberOf a + 2 ^ length a * numberOf b
 unfolding numberOf

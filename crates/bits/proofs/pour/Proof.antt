@@ -33,7 +33,8 @@ same-length c = search needs
 returns-2 : tie.Need-returns-2
 returns-2 c =
     let b = c .before .before .before .before .before .before .before .before .before .before in
-    pours-word (b .args .bytes .now) (b .args .p) (b .args .width) (b .args .value) (b .pre .0) (b .pre .2) _ _ (c .before .before .before .before .before .before .before .joined-word .ensures) (c .before .before .before .before .put-word .ensures) (c .before .before .before .before .before .before .if1 .left) (b .pre .1)
+    let word = c .before .before .before .before .before .before .before .joined-word .ensures in
+    pours-word (b .args .bytes .now) (b .args .p) (b .args .width) (b .args .value) (b .pre .0) (b .pre .2) _ _ word (c .before .before .before .before .put-word .ensures) (c .before .before .before .before .before .before .if1 .left) (b .pre .1)
 
 pub pour-spec : {M : Type 1} → statement M
 pour-spec =

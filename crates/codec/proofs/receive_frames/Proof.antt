@@ -55,9 +55,13 @@ loop-holds c =
       λ r d. rw empty (receive-start r (a .law) (a .frames) (stateOf (c .carry .result)) (a .octets .now) (a .bytes .now) (a .marks .now) (byte (c .before .before .before .before .before .before))),
     )
 
--- what the call draws up of its record
-drawn : (c : tie.After-carry Inv-loop μ-loop)
-    → Drawn labelTables (start c .args .r) (stateOf (c .carry .result)) (start c .args .frames) (c .before .frame-width .result) (c .before .before .draw-up .result) (c .before .before .draw-up .last .1 .1 .0)
+-- what the call draws up is drawn up of the record r
+abbrev Of : tie.After-carry Inv-loop μ-loop → Record → Type 0
+Of c r =
+    let a = start c .args in
+    Drawn labelTables r (stateOf (c .carry .result)) (a .frames) (c .before .frame-width .result) (c .before .before .draw-up .result) (c .before .before .draw-up .last .1 .1 .0)
+
+drawn : (c : tie.After-carry Inv-loop μ-loop) → Of c (start c .args .r)
 drawn c =
     let e = c .before .before .draw-up .ensures in
     record { allowed = rw (c .carry .ensures .0) (start c .pre .0); wide = c .before .frame-width .ensures; mapped = e .0; tabled = e .2 }
@@ -68,15 +72,16 @@ few c = omega (arith, start (c .before .before) .pre .0 .few)
 
 -- a frame has no more data bits than these
 wide : (c : tie.After-carry Inv-loop μ-loop) → c .before .frame-width .result ≤ 48
-wide c = let b = start c in few-bits (b .args .r) 0 (b .args .frames) (c .before .frame-width .result) (omega arith) (b .pre .0 .few) (c .before .frame-width .ensures) (b .pre .0 .rate) .0
+wide c =
+    let b = start c in
+    few-bits (b .args .r) 0 (b .args .frames) (c .before .frame-width .result) (omega arith) (b .pre .0 .few) (c .before .frame-width .ensures) (b .pre .0 .rate) .0
 
 -- the data buffer is as long as it was lent
 long : (c : tie.At-loop Inv-loop μ-loop) → length (c .loop .bytes) ≡ length (start (c .before) .args .bytes .now)
 long c = sym (length-poured (c .loop .bytes) (c .loop .pouring)) ∙ c .loop .inv .3 _ (drawn (c .before)) .longBits
 
--- the next frame can be received, of each record that all this is drawn up of
-able : (c : tie.In-loop Inv-loop μ-loop) (r : Record) → Drawn labelTables r (stateOf (c .before .before .carry .result)) (start (c .before .before) .args .frames) (c .before .before .before .frame-width .result) (c .before .before .before .before .draw-up .result) (c .before .before .before .before .draw-up .last .1 .1 .0)
-    → Receivable r (c .before .before .before .before .draw-up .result) (c .before .before .before .before .draw-up .last .1 .1 .0) (c .before .loop .line)
+-- the next frame can be received, with each such record
+able : (c : tie.In-loop Inv-loop μ-loop) (r : Record) → Of (c .before .before) r → Receivable r (c .before .before .before .before .draw-up .result) (c .before .before .before .before .draw-up .last .1 .1 .0) (c .before .loop .line)
 able c r d =
     let a = start (c .before .before) .args in
     let l = c .before .loop in
@@ -108,11 +113,12 @@ pour-requires c κs =
     let a = b .args in
     let l = c .before .before .before .before .before .loop in
     let d = drawn (c .before .before .before .before .before .before) in
-    let got = c .before .receive-frame .ensures _ (able (c .before .before .before .before) _ d) in (
+    let got = c .before .receive-frame .ensures _ (able (c .before .before .before .before) _ d) in
+    let room = bits-room (a .r) (l .n) (a .frames) _ (length (a .bytes .now)) (omega arith) (d .wide) (b .pre .2) in (
       l .inv .1,
       omega (arith, wide (c .before .before .before .before .before .before)),
       word-fits (a .r) (a .law) (stateOf (l .line)) _ _ _ (got .3) (d .wide),
-      omega (arith, bits-room (a .r) (l .n) (a .frames) _ (length (a .bytes .now)) (omega arith) (d .wide) (b .pre .2), long (c .before .before .before .before .before), l .inv .2),
+      omega (arith, room, long (c .before .before .before .before .before), l .inv .2),
     )
 
 slice-write-marks : tie.Need-slice-write-marks Inv-loop μ-loop
@@ -175,7 +181,8 @@ returns c =
     let rest : 8 * bytesFor (l .pouring .count) - l .pouring .count ≡ 8 * bytesFor (N * w .result) - N * w .result = omega arith in
     let all =
     receive-all (a .r) (a .law) N _ (a .octets .now) (a .bytes .now) (a .marks .now) (l .n) (w .result) (stateOf (l .line)) _ _ (l .marks) (l .inv .3 _ (drawn (c .before .before .before .before .before .before .before)))
-    (omega arith) (byte (c .before .before .before .before .before .before .before .before .before .before .before .before .before)) (b .pre .2) (w .ensures) (c .before .before .before .pour-out .ensures ∙ ap₂ (λ (x k : ℕ). putField (poured (l .bytes) (l .pouring)) x k 0) whole rest) in (
+    (omega arith) (byte (c .before .before .before .before .before .before .before .before .before .before .before .before .before)) (b .pre .2) (w .ensures)
+    (c .before .before .before .pour-out .ensures ∙ ap₂ (λ (x k : ℕ). putField (poured (l .bytes) (l .pouring)) x k 0) whole rest) in (
       c .state-of .ensures ∙ all .0 ∙ ap (λ (st : LineState). receiveAfter (a .r) (a .law) N st os) e,
       all .1 ∙ ap (λ (st : LineState). over (bytesOf (bytesFor (dataBits (a .r) N)) (nth (receiveFrames (a .r) (a .law) N st os))) (a .bytes .now)) e,
       all .2,

@@ -1,5 +1,5 @@
 -- After n turns the first n frames are sent. Assumes nothing.
-use mathlib.Core.Path.{_≡_, refl, ap, ap₂, _∙_}
+use mathlib.Core.Path.{refl, ap, _∙_}
 use Prim.Native.Nat.{ℕ, _+_, _-_, _*_, _^_, _≤_, _<_}
 use native.Mathlib.Omega.{arith}
 use lib.ListN.{length}
@@ -44,9 +44,13 @@ loop-holds c =
     let a = start c .args in
     (c .carry .ensures .1, λ r d. send-start r (a .law) (a .frames) (stateOf (c .carry .result)) (a .bytes .now) (a .octets .now))
 
--- what the call draws up of its record
-drawn : (c : tie.After-carry Inv-loop μ-loop)
-    → Drawn pointTables (start c .args .r) (stateOf (c .carry .result)) (start c .args .frames) (c .before .frame-width .result) (c .before .before .before .before .draw-up .result) (c .before .before .before .before .draw-up .last .1 .0)
+-- what the call draws up is drawn up of the record r
+abbrev Of : tie.After-carry Inv-loop μ-loop → Record → Type 0
+Of c r =
+    let a = start c .args in
+    Drawn pointTables r (stateOf (c .carry .result)) (a .frames) (c .before .frame-width .result) (c .before .before .before .before .draw-up .result) (c .before .before .before .before .draw-up .last .1 .0)
+
+drawn : (c : tie.After-carry Inv-loop μ-loop) → Of c (start c .args .r)
 drawn c =
     let e = c .before .before .before .before .draw-up .ensures in
     record { allowed = rw (c .carry .ensures .0) (start c .pre .0); wide = c .before .frame-width .ensures; mapped = e .0; tabled = e .1 }
@@ -62,8 +66,8 @@ turn c =
     let b = start (c .before .before) in
     (omega (arith, b .pre .0 .few), omega (arith, c .before .loop .inv .1 _ (drawn (c .before .before)) .long))
 
--- the next frame can be sent, of each record that all this is drawn up of
-able : (c : tie.In-loop Inv-loop μ-loop) (r : Record) → Drawn pointTables r (stateOf (c .before .before .carry .result)) (start (c .before .before) .args .frames) (c .before .before .before .frame-width .result) (c .before .before .before .before .before .before .draw-up .result) (c .before .before .before .before .before .before .draw-up .last .1 .0)
+-- the next frame can be sent, with each such record
+able : (c : tie.In-loop Inv-loop μ-loop) (r : Record) → Of (c .before .before) r
     → Sendable r (c .before .before .before .before .before .before .draw-up .result) (c .before .before .before .before .reciprocals-of .result) (c .before .before .before .before .before .before .draw-up .last .1 .0) (c .before .loop .line)
 able c r d =
     let a = start (c .before .before) .args in
