@@ -24,7 +24,7 @@ use Rattle.bits.proofs.PutField.{length-putField}
 use Rattle.mapping.specs.declared.Mapping.{Mapping}
 use Rattle.mapping.specs.Tables.{pointTables, labelTables}
 use Rattle.frame.specs.declared.Carried.{Carried}
-use Rattle.frame.specs.Reciprocals.{reciprocalOf}
+use Rattle.coding.specs.Reciprocals.{reciprocalOf}
 use Rattle.frame.specs.Parts.{Sendable, Receivable}
 use Rattle.codec.specs.Buffers.{bitsOver}
 use Rattle.codec.specs.Loops.{Drawn, Sending, Receiving}

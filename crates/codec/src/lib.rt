@@ -1,6 +1,6 @@
 // The frame sender and the frame receiver.
 use bits::Pouring;
-use frame::modulus::reciprocals_of;
+use coding::modulus::reciprocals_of;
 use standard::FramesDone;
 use standard::Law;
 use standard::LineState;

@@ -34,9 +34,9 @@ use Rattle.mapping.specs.declared.Mapping.{Mapping}
 use Rattle.mapping.specs.Tables.{mappingOf, labelOrNone, labelTables}
 use Rattle.mapping.proofs.Tables.{width-le, label-in, none-outside, label-inside}
 use Rattle.frame.specs.declared.Carried.{Carried}
-use Rattle.frame.specs.Past.{turned}
+use Rattle.coding.specs.Past.{turned}
 use Rattle.frame.specs.Parts.{stateOf, labelIn, noneTest}
-use Rattle.frame.proofs.Stream.{turned-lt, from-past}
+use Rattle.coding.proofs.Stream.{turned-lt, from-past}
 
 -- ---- the number of six labels, from label 5 down to label 0
 

@@ -30,9 +30,9 @@ use Rattle.mapping.specs.declared.Mapping.{Mapping}
 use Rattle.mapping.specs.Tables.{mappingOf}
 use Rattle.mapping.proofs.Tables.{size-le, point-in}
 use Rattle.frame.specs.declared.Carried.{Carried}
-use Rattle.frame.specs.Past.{Scrambled}
+use Rattle.coding.specs.Past.{Scrambled}
 use Rattle.frame.specs.Parts.{stateOf, Sendable, octetIn}
-use Rattle.frame.proofs.Stream.{turned-lt, from-past}
+use Rattle.coding.proofs.Stream.{turned-lt, from-past}
 
 number-lt : (k : ℕ) (ss : List Bool) → length ss ≡ k + 6 → numberOf (drop 6 ss) < 2 ^ k
 number-lt k ss e = let six : length (drop 6 ss) ≡ k = omega (arith, length-drop 6 ss) in rw (← six) (numberOf-lt (drop 6 ss))

@@ -18,8 +18,8 @@ use Rattle.standard.specs.declared.Record.{Record}
 use Rattle.mapping.specs.declared.Mapping.{Mapping}
 use Rattle.mapping.specs.Tables.{mappingOf, pointTables, labelTables}
 use Rattle.frame.specs.declared.Carried.{Carried}
-use Rattle.frame.specs.Past.{turned}
-use Rattle.frame.specs.Reciprocals.{reciprocalOf}
+use Rattle.coding.specs.Past.{turned}
+use Rattle.coding.specs.Reciprocals.{reciprocalOf}
 
 -- the line state that is carried
 abbrev pub stateOf : Carried → LineState

@@ -1,22 +1,18 @@
 // One data frame each way: D = K + 6 data bits, held as a number with bit 0 first in time, and six octets.
 // K, the sizes and the tables are those that a call draws up of its record.
-pub mod modulus;
-mod scrambler;
-mod signs;
-
 use bits::bit_of;
 use bits::wide;
+use coding::modulus::labels_of;
+use coding::scrambler::descramble_past;
+use coding::scrambler::past_after;
+use coding::scrambler::scramble_past;
+use coding::scrambler::turn;
+use coding::signs::sign_bits_of;
+use coding::signs::signs_in;
+use coding::signs::signs_of;
 use mapping::Mapping;
-use modulus::labels_of;
 use pcm::octet_of;
 use pcm::ucode_of;
-use scrambler::descramble_past;
-use scrambler::past_after;
-use scrambler::scramble_past;
-use scrambler::turn;
-use signs::sign_bits_of;
-use signs::signs_in;
-use signs::signs_of;
 use standard::Law;
 use standard::LineState;
 ghost use mathlib.Core.Path.{_≡_};
@@ -31,7 +27,7 @@ ghost use Rattle.standard.specs.Scrambler.{pushAll};
 ghost use Rattle.standard.specs.Modulus.{number as numberIn};
 ghost use Rattle.standard.specs.Frame.{sendFrame, sendNext, mark as markOf, receiveFrame, receiveNext};
 ghost use Rattle.standard.specs.declared.Record.{Record};
-ghost use Rattle.frame.specs.Past.{turned};
+ghost use Rattle.coding.specs.Past.{turned};
 ghost use Rattle.frame.specs.Parts.{stateOf, Sendable, Receivable, octetIn, labelIn, noneTest};
 
 // A line state on its way through a call: its history in the order of time, and the last sign.

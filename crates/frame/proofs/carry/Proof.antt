@@ -2,8 +2,8 @@
 use borrow.Author.Needs.{needs}
 use mathlib.Core.Path.{ap, _∙_}
 use Prim.Native.Nat.{ℕ}
-use Rattle.frame.specs.Past.{turned}
-use Rattle.frame.proofs.Stream.{turned-lt, turned-back}
+use Rattle.coding.specs.Past.{turned}
+use Rattle.coding.proofs.Stream.{turned-lt, turned-back}
 use Rattle.frame.proofs.carry.Statement.{statement}
 use Rattle.frame.proofs.carry.Tie as tie
 

@@ -5,7 +5,7 @@ use mathlib.Core.Bool.{Bool}
 use mathlib.Core.List.{List}
 use Rattle.standard.specs.Scrambler.{pushAll}
 use Rattle.standard.proofs.Words.{zero-bits}
-use Rattle.frame.specs.Past.{turned}
+use Rattle.coding.specs.Past.{turned}
 use Rattle.frame.proofs.marked_frame.Statement.{statement}
 use Rattle.frame.proofs.marked_frame.Tie as tie
 

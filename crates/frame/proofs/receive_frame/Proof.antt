@@ -10,9 +10,9 @@ use Rattle.standard.specs.Scrambler.{pushAll, descramble}
 use Rattle.standard.specs.Signs.{signBits}
 use Rattle.standard.specs.Frame.{signAt, mark}
 use Rattle.mapping.proofs.Tables.{width-le, width-ge, size-le}
-use Rattle.frame.specs.Past.{turned}
-use Rattle.frame.proofs.Stream.{turned-lt}
-use Rattle.frame.proofs.SixSigns.{signs-are, sign-is}
+use Rattle.coding.specs.Past.{turned}
+use Rattle.coding.proofs.Stream.{turned-lt}
+use Rattle.coding.proofs.SixSigns.{signs-are, sign-is}
 use Rattle.frame.proofs.Receiving.{outside-is, number-is, limit-is, mark-outside, mark-seventh, mark-good, marked-next, marked-number, heard-bits, heard-data, heard-next}
 use Rattle.frame.proofs.receive_frame.Statement.{statement}
 use Rattle.frame.proofs.receive_frame.Tie as tie

@@ -2,7 +2,7 @@
 use native.Mathlib.Omega.{arith}
 use borrow.Author.Needs.{needs}
 use Rattle.mapping.proofs.Tables.{width-le, width-ge, size-le}
-use Rattle.frame.proofs.Stream.{scrambled-lt}
+use Rattle.coding.proofs.Stream.{scrambled-lt}
 use Rattle.frame.proofs.Sending.{sent-below, sent-small, sent-octets, sent-state}
 use Rattle.frame.proofs.send_frame.Statement.{statement}
 use Rattle.frame.proofs.send_frame.Tie as tie

@@ -1,0 +1,3 @@
+pub mod Stream
+pub mod SixSigns
+pub mod Division
