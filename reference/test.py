@@ -444,9 +444,9 @@ def empty_intervals():
 # Wrong codecs
 
 RIGHT = {name: getattr(frames, name)
-         for name in ("points", "labels", "interval_masks", "get_bits", "add_bits", "send_frame",
-                      "receive_frame", "call_faults", "send_faults", "receive_faults", "outside",
-                      "receive")}
+         for name in ("points", "labels", "interval_masks", "get_bits", "add_bits", "scramble",
+                      "send_frame", "receive_frame", "call_faults", "send_faults", "receive_faults",
+                      "outside", "receive")}
 RIGHT_CP = {name: getattr(cp, name)
             for name in ("covered", "crc", "record_in", "record_faults", "reader_faults",
                          "writer_faults")}
@@ -572,6 +572,43 @@ def read_below_53(octets, first, count):
 def written_below_53(octets, first, count, bits):
     """A frame's bits written by a word of 53 bits."""
     RIGHT["add_bits"](octets, first, count, bits % 2 ** (53 - first % 8))
+
+
+def by_reciprocals(reciprocal):
+    """The Ucodes, each quotient by a product with a size's reciprocal in 28 bits."""
+    def ucodes_for(masks, number):
+        tables = [frames.points(mask) for mask in masks]
+        high, low = divmod(number, len(tables[0]) * len(tables[1]) * len(tables[2]))
+        ucodes = []
+        for left, half in (low, tables[:3]), (high, tables[3:]):
+            for table in half[:2]:
+                number, left = left, left * reciprocal(len(table)) >> 28
+                ucodes.append(table[(number - left * len(table)) % len(table)])
+            ucodes.append(half[2][left % len(half[2])])
+        return ucodes
+    return ucodes_for
+
+
+def cut_at_words(octets, first, count, bits):
+    """Received bits past the word of eight bytes in which a frame begins are lost."""
+    RIGHT["add_bits"](octets, first, count, bits % 2 ** (64 - first % 64))
+
+
+def last_word_kept(record, law, count, state, octets, bits, marks):
+    """Bits that fill no word of eight bytes are not put."""
+    refusal, state, heard, judged = RIGHT["receive"](record, law, count, state, octets, bits, marks)
+    if not refusal:
+        full = count * frames.frame_bits(record) // 64 * 8
+        heard = heard[:full] + bits[full:]
+    return refusal, state, heard, judged
+
+
+def unscrambled_past_36(history, data, count):
+    """Two steps of 18 bits: those after them are left as they are."""
+    line, history = RIGHT["scramble"](history, data % 2**36, min(count, 36))
+    for n in range(36, count):
+        history = frames.push(history, data >> n & 1)
+    return line | data >> 36 << 36, history
 
 
 def own_output(history, line, count):
@@ -809,6 +846,13 @@ WRONG_CODECS = {
     "tables for five masks": tables_from(masks_of_five_tables),
     "scrambler 23 bits a step": {"frames.scramble": scrambler_by(23)},
     "scrambler 19 bits a step": {"frames.scramble": scrambler_by(19)},
+    "reciprocals rounded down":
+        {"frames.ucodes_for": by_reciprocals(lambda size: 2**28 // size)},
+    "reciprocals of 19 bits":
+        {"frames.ucodes_for": by_reciprocals(lambda size: -(-2**19 // size) * 2**9)},
+    "bits across words lost": {"frames.add_bits": cut_at_words},
+    "bits of the last word lost": {"frames.receive": last_word_kept},
+    "bits past 36 not scrambled": {"frames.scramble": unscrambled_past_36},
     "words of 53 bits read": {"frames.get_bits": read_below_53},
     "words of 53 bits written": {"frames.add_bits": written_below_53},
     "descrambler fed its output": {"frames.descramble": own_output},
