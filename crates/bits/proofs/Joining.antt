@@ -1,15 +1,17 @@
 -- Bits held in a number until they fill a word. Assumes nothing.
-use mathlib.Core.Path.{_≡_, sym, ap, ap₂, _∙_}
+use mathlib.Core.Path.{_≡_, refl, sym, ap, ap₂, _∙_}
 use Prim.Native.Nat.{ℕ, _+_, _-_, _*_, _/_, _%_, _^_, _≤_, _<_}
 use mathlib.Core.List.{List}
 use native.Mathlib.Nat.{add-comm, mul-mod-left, mod-eq-of-lt, lt-of-lt-of-le}
+use native.Mathlib.Decide.{decLt}
 use native.Mathlib.Omega.{arith}
+use borrow.Author.Tests.{lt-ltb, le-ltb}
 use lib.Arith.{digits-lt}
 use lib.Bits.{bitOr, or-shifted-r}
 use lib.ListN.{length, getD}
 use lib.Pow.{pow-add, pow-mono, shl-shr, shr-shr, shr-lt, high, low, mod-pow-add}
 use Rattle.standard.specs.Bits.{bit, bytesFor}
-use Rattle.bits.specs.PutField.{putField, Holds, poured}
+use Rattle.bits.specs.PutField.{putField, Holds, joined, holding, filling, poured}
 use Rattle.bits.specs.declared.Pouring.{Pouring}
 use Rattle.bits.proofs.Bits.{low-bit}
 use Rattle.bits.proofs.PutField.{length-putField, putField-none, putField-same, putField-step}
@@ -53,10 +55,16 @@ pub length-poured : (s : List ℕ) (p : Pouring) → length (poured s p) ≡ len
 unfolding poured
 length-poured s p = length-putField s (8 * p .to) (p .count) (p .held)
 
--- n bits of v poured after those that are held
-module _ (s : List ℕ) (p : Pouring) (n v : ℕ) (held : Holds p) (small : v < 2 ^ n) where
+-- the code's word is put
+pub word-filled : (s t : List ℕ) (p : Pouring) (v w : ℕ) → w ≡ joined p v % 2 ^ 64 → t ≡ putField s (8 * p .to) 64 w → t ≡ putField s (8 * p .to) 64 (joined p v)
+word-filled s t p v w ew et =
+    let all = joined p v in
+    et ∙ putField-same s (8 * p .to) 64 w all (λ j l. ap (λ (y : ℕ). bit y j) ew ∙ low-bit 64 all j l)
+
+-- n bits of v poured after those that are held: as if they were put
+module _ (s : List ℕ) (p : Pouring) (n v : ℕ) (held : Holds p) (small : v < 2 ^ n) (few : n < 64) where
   abbrev all : ℕ
-  all = v * 2 ^ (p .count) + p .held
+  all = joined p v
 
   at-once : putField (poured s p) (8 * p .to + p .count) n v ≡ putField s (8 * p .to) (p .count + n) all
   unfolding poured
@@ -66,31 +74,37 @@ module _ (s : List ℕ) (p : Pouring) (n v : ℕ) (held : Holds p) (small : v < 
   Pours t x = Holds x × (8 * x .to + x .count ≡ 8 * p .to + p .count + n) × (poured t x ≡ putField (poured s p) (8 * p .to + p .count) n v)
 
   -- they do not fill the word
-  pub pours-few : (w : ℕ) → w ≡ all % 2 ^ 64 → p .count + n < 64 → Pours s (record { to = p .to; count = p .count + n; held = w })
+  pours-few : p .count + n < 64 → Pours s (record { to = p .to; count = p .count + n; held = all % 2 ^ 64 })
   unfolding poured
-  pours-few w e few =
+  pours-few room =
       let lt = joined-lt (p .held) (p .count) v (held .small) n small in
-      let same : w ≡ all = e ∙ mod-eq-of-lt (lt-of-lt-of-le lt (pow-mono {i = p .count + n} {j = 64} (omega arith))) in
-      (record { few = few; small = rw same lt }, omega arith, ap (putField s (8 * p .to) (p .count + n)) same ∙ sym at-once)
+      let same : all % 2 ^ 64 ≡ all = mod-eq-of-lt (lt-of-lt-of-le lt (pow-mono {i = p .count + n} {j = 64} (omega arith))) in
+      (record { few = room; small = rw same lt }, omega arith, ap (putField s (8 * p .to) (p .count + n)) same ∙ sym at-once)
 
   -- they fill it
-  pub pours-word : (w : ℕ) (t : List ℕ) → w ≡ all % 2 ^ 64 → t ≡ putField s (8 * p .to) 64 w → 64 ≤ p .count + n → n < 64
-      → Pours t (record { to = p .to + 8; count = p .count + n - 64; held = v / 2 ^ (64 - p .count) })
+  pours-word : 64 ≤ p .count + n → Pours (putField s (8 * p .to) 64 all) (record { to = p .to + 8; count = p .count + n - 64; held = v / 2 ^ (64 - p .count) })
   unfolding poured
-  pours-word w t ew et many few =
+  pours-word many =
       let k = p .count + n - 64 in
       let x = v / 2 ^ (64 - p .count) in
+      let t = putField s (8 * p .to) 64 all in
       let place : 8 * (p .to + 8) ≡ 8 * p .to + 64 = omega arith in
       let width : n ≡ k + (64 - p .count) = omega (arith, held .few) in
-      let whole : 64 + k ≡ p .count + n = omega arith in
-      let first : t ≡ putField s (8 * p .to) 64 all
-      = et ∙ putField-same s (8 * p .to) 64 w all (λ j l. ap (λ (y : ℕ). bit y j) ew ∙ low-bit 64 all j l) in (
+      let whole : 64 + k ≡ p .count + n = omega arith in (
         record { few = omega (arith, held .few); small = shr-lt k (64 - p .count) (rw (ap (λ (j : ℕ). 2 ^ j) width) at small) },
         omega arith,
-        putField-step s t (putField t (8 * (p .to + 8)) k x) (8 * p .to) 64 k all first
+        putField-step s t (putField t (8 * (p .to + 8)) k x) (8 * p .to) 64 k all refl
             (ap₂ (λ (i y : ℕ). putField t i k y) place (sym (joined-rest (p .held) (p .count) v (held .small) (omega (arith, held .few)))))
             ∙ ap (λ (j : ℕ). putField s (8 * p .to) j all) whole ∙ sym at-once,
       )
+
+  pub pours : (t : List ℕ) (x : Pouring) → x ≡ holding p n v → t ≡ filling s p n v → Pours t x
+  unfolding holding filling
+  pours t x ex et = go (decLt (p .count + n) 64)
+    where
+      go : Dec (p .count + n < 64) → Pours t x
+      go (yes l) = rw (ex, et, lt-ltb (p .count + n) 64 l) (pours-few l)
+      go (no l) = let many : 64 ≤ p .count + n = omega arith in rw (ex, et, le-ltb (p .count + n) 64 many) (pours-word many)
 
 -- the last bits put, and zeros above them
 pub poured-out : (s t : List ℕ) (p : Pouring) → Holds p → t ≡ putField s (8 * p .to) (8 * bytesFor (p .count)) (p .held)

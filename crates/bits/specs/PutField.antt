@@ -1,7 +1,8 @@
 -- Bits put into bytes. Assumes nothing.
-use Prim.Native.Nat.{ℕ, _-_, _*_, _^_, _<_}
+use Prim.Native.Nat.{ℕ, _+_, _-_, _*_, _/_, _%_, _^_, _<_}
 use mathlib.Core.Bool.{Bool, cond}
 use mathlib.Core.List.{List}
+use lib.Dec.{ltb}
 use lib.ListN.{length}
 use Rattle.standard.specs.Bits.{bit, bitAt, field, bytesOf}
 use Rattle.standard.specs.Cp.{put, covers}
@@ -23,6 +24,19 @@ putField s p k v = bytesOf (length s) (bitWith (bitAt s) p k v)
 pub record Holds (p : Pouring) : Type 0 where
   pub few : p .count < 64
   pub small : p .held < 2 ^ (p .count)
+
+-- the bits that are held, and those of v above them
+abbrev pub joined : Pouring → ℕ → ℕ
+joined p v = v * 2 ^ (p .count) + p .held
+
+-- k bits of v more: what is held then, and the bytes s, of which eight are put where the bits fill them
+unfoldable pub holding : Pouring → ℕ → ℕ → Pouring
+holding p k v =
+    cond (ltb (p .count + k) 64) (record { to = p .to; count = p .count + k; held = joined p v % 2 ^ 64 })
+    (record { to = p .to + 8; count = p .count + k - 64; held = v / 2 ^ (64 - p .count) })
+
+unfoldable pub filling : List ℕ → Pouring → ℕ → ℕ → List ℕ
+filling s p k v = cond (ltb (p .count + k) 64) s (putField s (8 * p .to) 64 (joined p v))
 
 -- the bytes s with the bits that are held in them
 unfoldable pub poured : List ℕ → Pouring → List ℕ

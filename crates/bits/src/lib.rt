@@ -1,9 +1,9 @@
 // Bits in byte buffers and in numbers: bit n of a buffer is in byte n / 8, with weight 2 ^ (n % 8), and fields have their lowest bit first.
 ghost use mathlib.Core.Path.{_≡_};
-ghost use Prim.Native.Nat.{_+_, _-_, _*_, _/_, _%_, _^_, _<_, _≤_};
+ghost use Prim.Native.Nat.{_+_, _*_, _/_, _%_, _^_, _<_, _≤_};
 ghost use lib.ListN.{length};
 ghost use Rattle.standard.specs.Bits.{weight, bit, bitAt, field, bytesFor};
-ghost use Rattle.bits.specs.PutField.{wordWith, putField, Holds, poured};
+ghost use Rattle.bits.specs.PutField.{wordWith, putField, Holds, holding, filling};
 
 // Bit n of the bytes; 0 past their end.
 pub fn bit_at(bytes: &[u8], n: usize) -> bool
@@ -192,11 +192,10 @@ fn joined_word(held: u64, count: usize, value: u64) -> u64
     held | (value << count)
 }
 
-// Pours the `width` bits of `value`.
+// Pours the `width` bits of `value`, which has no more.
 pub fn pour(bytes: &mut [u8], p: Pouring, width: usize, value: u64) -> Pouring
-    requires { ⌜ Holds p × (width < 64) × (value < 2 ^ width) × (8 * p .to + p .count + width ≤ 8 * length (now bytes)) ⌝ }
-    ensures { λ x. ⌜ Holds x × (8 * x .to + x .count ≡ 8 * p .to + p .count + width)
-        × (poured (now (bytes .exit)) x ≡ putField (poured (now (bytes .entry)) p) (8 * p .to + p .count) width value) ⌝ }
+    requires { ⌜ Holds p × (width < 64) × (8 * p .to + p .count + width ≤ 8 * length (now bytes)) ⌝ }
+    ensures { λ x. ⌜ (x ≡ holding p width value) × (now (bytes .exit) ≡ filling (now (bytes .entry)) p width value) ⌝ }
 {
     let count = p.count + width;
     let word = joined_word(p.held, p.count, value);
@@ -218,7 +217,7 @@ pub fn pour(bytes: &mut [u8], p: Pouring, width: usize, value: u64) -> Pouring
 // Puts the bits that are held, and zeros into the rest of the last byte.
 pub fn pour_out(bytes: &mut [u8], p: Pouring)
     requires { ⌜ Holds p × (p .to + bytesFor (p .count) ≤ length (now bytes)) ⌝ }
-    ensures { λ x. ⌜ now (bytes .exit) ≡ putField (poured (now (bytes .entry)) p) (8 * p .to + p .count) (8 * bytesFor (p .count) - p .count) 0 ⌝ }
+    ensures { λ x. ⌜ now (bytes .exit) ≡ putField (now (bytes .entry)) (8 * p .to) (8 * bytesFor (p .count)) (p .held) ⌝ }
 {
     put_bytes(bytes, p.to, (p.count + 7) / 8, p.held);
 }

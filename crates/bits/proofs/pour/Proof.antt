@@ -1,6 +1,10 @@
 -- The bits held and the bits of the value, below a word or with a word put. Assumes nothing.
+use mathlib.Core.Path.{refl, ap}
+use Prim.Native.Nat.{ℕ, _+_}
 use borrow.Author.Needs.{needs}
-use Rattle.bits.proofs.Joining.{pours-few, pours-word}
+use borrow.Author.Tests.{lt-ltb, le-ltb}
+use Rattle.bits.specs.PutField.{holding, filling}
+use Rattle.bits.proofs.Joining.{word-filled}
 use Rattle.bits.proofs.pour.Statement.{statement}
 use Rattle.bits.proofs.pour.Tie as tie
 
@@ -11,9 +15,10 @@ joined-word-requires : tie.Need-joined-word-requires
 joined-word-requires c κs = search needs
 
 returns : tie.Need-returns
+unfolding holding filling
 returns c =
-    let b = c .before .before .before .before in
-    pours-few (b .args .bytes .now) (b .args .p) (b .args .width) (b .args .value) (b .pre .0) (b .pre .2) _ (c .before .joined-word .ensures) (c .if1 .taken)
+    let a = c .before .before .before .before .args in
+    rw (lt-ltb _ _ (c .if1 .taken)) (ap (λ (x : ℕ). record { to = a .p .to; count = a .p .count + a .width; held = x }) (c .before .joined-word .ensures), refl)
 
 put-word-requires : tie.Need-put-word-requires
 put-word-requires c κs = search needs
@@ -31,10 +36,10 @@ same-length : tie.Need-same-length
 same-length c = search needs
 
 returns-2 : tie.Need-returns-2
+unfolding holding filling
 returns-2 c =
-    let b = c .before .before .before .before .before .before .before .before .before .before in
-    let word = c .before .before .before .before .before .before .before .joined-word .ensures in
-    pours-word (b .args .bytes .now) (b .args .p) (b .args .width) (b .args .value) (b .pre .0) (b .pre .2) _ _ word (c .before .before .before .before .put-word .ensures) (c .before .before .before .before .before .before .if1 .left) (b .pre .1)
+    let a = c .before .before .before .before .before .before .before .before .before .before .args in
+    rw (le-ltb _ _ (c .before .before .before .before .before .before .if1 .left)) (refl, word-filled (a .bytes .now) _ (a .p) (a .value) _ (c .before .before .before .before .before .before .before .joined-word .ensures) (c .before .before .before .before .put-word .ensures))
 
 pub pour-spec : {M : Type 1} → statement M
 pour-spec =

@@ -11,7 +11,7 @@ use Rattle.standard.specs.Calls.{over}
 use Rattle.standard.specs.declared.LineState.{LineState}
 use Rattle.standard.specs.declared.Record.{Record}
 use Rattle.bits.specs.PutField.{putField, Holds, poured}
-use Rattle.bits.proofs.Joining.{poured-none, length-poured}
+use Rattle.bits.proofs.Joining.{poured-none, length-poured, pours, poured-out}
 use Rattle.mapping.specs.Tables.{labelTables}
 use Rattle.frame.specs.Parts.{stateOf, Receivable}
 use Rattle.codec.specs.Loops.{Drawn, Receiving}
@@ -112,14 +112,8 @@ pour-requires c κs =
     let b = start (c .before .before .before .before .before .before) in
     let a = b .args in
     let l = c .before .before .before .before .before .loop in
-    let d = drawn (c .before .before .before .before .before .before) in
-    let got = c .before .receive-frame .ensures _ (able (c .before .before .before .before) _ d) in
-    let room = bits-room (a .r) (l .n) (a .frames) _ (length (a .bytes .now)) (omega arith) (d .wide) (b .pre .2) in (
-      l .inv .1,
-      omega (arith, wide (c .before .before .before .before .before .before)),
-      word-fits (a .r) (a .law) (stateOf (l .line)) _ _ _ (got .3) (d .wide),
-      omega (arith, room, long (c .before .before .before .before .before), l .inv .2),
-    )
+    let room = bits-room (a .r) (l .n) (a .frames) _ (length (a .bytes .now)) (omega arith) (drawn (c .before .before .before .before .before .before) .wide) (b .pre .2) in
+    (l .inv .1, omega (arith, wide (c .before .before .before .before .before .before)), omega (arith, room, long (c .before .before .before .before .before), l .inv .2))
 
 slice-write-marks : tie.Need-slice-write-marks Inv-loop μ-loop
 slice-write-marks c = omega (arith, start (c .before .before .before .before .before .before .before .before .before) .pre .3, c .before .before .before .before .before .before .before .before .loop .inv .3 _ (drawn (c .before .before .before .before .before .before .before .before .before)) .longMarks)
@@ -139,9 +133,13 @@ loop-again c =
     let a = b .args in
     let l = c .before .before .before .before .before .before .before .before .before .loop in
     let w = c .before .before .before .before .before .before .before .before .before .before .before .frame-width .result in
-    let put = c .before .before .before .pour .ensures in
-    let got = c .before .before .before .before .before .receive-frame .ensures in (
-      got _ (able (c .before .before .before .before .before .before .before .before) _ (drawn (c .before .before .before .before .before .before .before .before .before .before))) .2,
+    let e = c .before .before .before .pour .ensures in
+    let got = c .before .before .before .before .before .receive-frame .ensures in
+    let d = drawn (c .before .before .before .before .before .before .before .before .before .before) in
+    let x = got _ (able (c .before .before .before .before .before .before .before .before) _ d) in
+    let fits = word-fits (a .r) (a .law) (stateOf (l .line)) _ _ w (x .3) (d .wide) in
+    let put = pours (l .bytes) (l .pouring) w _ (l .inv .1) fits (omega (arith, wide (c .before .before .before .before .before .before .before .before .before .before))) _ _ (e .0) (e .1) in (
+      x .2,
       put .0,
       put .1 ∙ ap (λ (x : ℕ). x + w) (l .inv .2) ∙ next (l .n) w,
       λ r d.
@@ -182,7 +180,7 @@ returns c =
     let all =
     receive-all (a .r) (a .law) N _ (a .octets .now) (a .bytes .now) (a .marks .now) (l .n) (w .result) (stateOf (l .line)) _ _ (l .marks) (l .inv .3 _ (drawn (c .before .before .before .before .before .before .before)))
     (omega arith) (byte (c .before .before .before .before .before .before .before .before .before .before .before .before .before)) (b .pre .2) (w .ensures)
-    (c .before .before .before .pour-out .ensures ∙ ap₂ (λ (x k : ℕ). putField (poured (l .bytes) (l .pouring)) x k 0) whole rest) in (
+    (poured-out (l .bytes) _ (l .pouring) (l .inv .1) (c .before .before .before .pour-out .ensures) ∙ ap₂ (λ (x k : ℕ). putField (poured (l .bytes) (l .pouring)) x k 0) whole rest) in (
       c .state-of .ensures ∙ all .0 ∙ ap (λ (st : LineState). receiveAfter (a .r) (a .law) N st os) e,
       all .1 ∙ ap (λ (st : LineState). over (bytesOf (bytesFor (dataBits (a .r) N)) (nth (receiveFrames (a .r) (a .law) N st os))) (a .bytes .now)) e,
       all .2,
