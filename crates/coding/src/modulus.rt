@@ -1,5 +1,5 @@
-// The modulus encoder. R is divided once, by three sizes together; what is left of it is below 2 ^ 21, where a quotient by
-// M is a product with the reciprocal of M, 2 ^ 28 / M rounded up.
+// The modulus encoder. R is divided once, by three sizes together; quotient and remainder are below 2 ^ 21, where dividing
+// by M is a product with the reciprocal of M, 2 ^ 28 / M rounded up, and a shift.
 ghost use mathlib.Core.Path.{_≡_};
 ghost use Prim.Native.Nat.{ℕ, _/_, _%_, _^_, _≤_, _<_};
 ghost use lib.ListN.{getD};
@@ -36,7 +36,7 @@ struct Divided {
     left: u64,
 }
 
-// The remainder and the quotient of a number below 2 ^ 21 by a size.
+// The remainder and the quotient of a number below 2 ^ 21 by a size, whose reciprocal is `inverse`.
 fn divide(number: u64, size: u64, inverse: u64) -> Divided
     requires { ⌜ (number < 2 ^ 21) × (0 < size) × (size ≤ 128) × (inverse ≡ reciprocal size) ⌝ }
     ensures { λ x. ⌜ (x .label ≡ number % size) × (x .left ≡ number / size) ⌝ }
@@ -48,7 +48,7 @@ fn divide(number: u64, size: u64, inverse: u64) -> Divided
     }
 }
 
-// The six labels of a number R: the remainders by M0 to M4, and what is left.
+// The six labels of a number R: the remainders by M0 to M4, and what is left. `inverses` has the sizes' reciprocals.
 pub fn labels_of(sizes: [u64; 6], inverses: [u64; 6], number: u64) -> [u64; 6]
     requires { ⌜ (number < product sizes) × ((i : ℕ) → getD sizes i 0 ≤ 128) × (inverses ≡ listFrom (reciprocalOf sizes) 0 6) ⌝ }
     ensures { λ r. ⌜ r ≡ labels sizes number ⌝ }

@@ -78,7 +78,7 @@ fn write_octets(law: Law, points: &[[u8; 128]; 6], labels: [u64; 6], signs: u64,
     }
 }
 
-// Sends the D lowest bits of `bits` as six octets, and answers the state left.
+// Sends the D lowest bits of `bits` as six octets, and answers the state left. `inverses` has the sizes' reciprocals.
 pub fn send_frame(
     law: Law,
     mapping: Mapping,
