@@ -22,7 +22,8 @@ module _ (h c v : ℕ) (small : h < 2 ^ c) where
   pub joined-word : c < 64 → bitOr h (v * 2 ^ c % 2 ^ 64) ≡ (v * 2 ^ c + h) % 2 ^ 64
   joined-word few =
       let e : 64 ≡ 64 - c + c = omega arith in
-      let part : (x : ℕ) → x % 2 ^ 64 ≡ (x / 2 ^ c % 2 ^ (64 - c)) * 2 ^ c + x % 2 ^ c = λ x. ap (λ (k : ℕ). x % 2 ^ k) e ∙ mod-pow-add x (64 - c) c in
+      let part : (x : ℕ) → x % 2 ^ 64 ≡ (x / 2 ^ c % 2 ^ (64 - c)) * 2 ^ c + x % 2 ^ c = λ x. ap (λ (k : ℕ). x % 2 ^ k) e
+      ∙ mod-pow-add x (64 - c) c in
       let up : v * 2 ^ c % 2 ^ 64 ≡ v % 2 ^ (64 - c) * 2 ^ c =
       part (v * 2 ^ c) ∙ ap₂ (λ (x y : ℕ). x % 2 ^ (64 - c) * 2 ^ c + y) (shl-shr v c) (mul-mod-left v (2 ^ c)) ∙ omega arith in
       ap (bitOr h) up ∙ or-shifted-r (v % 2 ^ (64 - c)) c h small
@@ -40,7 +41,8 @@ module _ (h c v : ℕ) (small : h < 2 ^ c) where
   pub joined-rest : c ≤ 64 → (v * 2 ^ c + h) / 2 ^ 64 ≡ v / 2 ^ (64 - c)
   joined-rest few =
       let e : 64 ≡ c + (64 - c) = omega arith in
-      ap (λ (k : ℕ). (v * 2 ^ c + h) / 2 ^ k) e ∙ sym (shr-shr (v * 2 ^ c + h) c (64 - c)) ∙ ap (λ (x : ℕ). x / 2 ^ (64 - c)) (high v c small)
+      ap (λ (k : ℕ). (v * 2 ^ c + h) / 2 ^ k) e ∙ sym (shr-shr (v * 2 ^ c + h) c (64 - c))
+      ∙ ap (λ (x : ℕ). x / 2 ^ (64 - c)) (high v c small)
 
   -- all of them
   pub joined-lt : (n : ℕ) → v < 2 ^ n → v * 2 ^ c + h < 2 ^ (c + n)
@@ -56,7 +58,8 @@ unfolding poured
 length-poured s p = length-putField s (8 * p .to) (p .count) (p .held)
 
 -- the code's word is put
-pub word-filled : (s t : List ℕ) (p : Pouring) (v w : ℕ) → w ≡ joined p v % 2 ^ 64 → t ≡ putField s (8 * p .to) 64 w → t ≡ putField s (8 * p .to) 64 (joined p v)
+pub word-filled : (s t : List ℕ) (p : Pouring) (v w : ℕ) → w ≡ joined p v % 2 ^ 64 → t ≡ putField s (8 * p .to) 64 w
+    → t ≡ putField s (8 * p .to) 64 (joined p v)
 word-filled s t p v w ew et =
     let all = joined p v in
     et ∙ putField-same s (8 * p .to) 64 w all (λ j l. ap (λ (y : ℕ). bit y j) ew ∙ low-bit 64 all j l)
@@ -82,7 +85,8 @@ module _ (s : List ℕ) (p : Pouring) (n v : ℕ) (held : Holds p) (small : v < 
       (record { few = room; small = rw same lt }, omega arith, ap (putField s (8 * p .to) (p .count + n)) same ∙ sym at-once)
 
   -- they fill it
-  pours-word : 64 ≤ p .count + n → Pours (putField s (8 * p .to) 64 all) (record { to = p .to + 8; count = p .count + n - 64; held = v / 2 ^ (64 - p .count) })
+  pours-word : 64 ≤ p .count + n → Pours (putField s (8 * p .to) 64 all)
+      (record { to = p .to + 8; count = p .count + n - 64; held = v / 2 ^ (64 - p .count) })
   unfolding poured
   pours-word many =
       let k = p .count + n - 64 in

@@ -62,7 +62,8 @@ unfolding putField
 opened s p k v = refl
 
 -- a field put into the bytes of a bit string
-pub putField-bytes : (m : ℕ) (f : ℕ → Bool) (p k v : ℕ) → putField (bytesOf m f) p k v ≡ bytesOf m (λ n. cond (covers (put p k v) n) (bit v (n - p)) (f n))
+pub putField-bytes : (m : ℕ) (f : ℕ → Bool) (p k v : ℕ) → putField (bytesOf m f) p k v
+    ≡ bytesOf m (λ n. cond (covers (put p k v) n) (bit v (n - p)) (f n))
 putField-bytes m f p k v =
     opened (bytesOf m f) p k v ∙ ap (λ (j : ℕ). bytesOf j (bitWith (bitAt (bytesOf m f)) p k v)) (length-bytesOf m f)
     ∙ bytesOf-ext m (bitWith (bitAt (bytesOf m f)) p k v) (bitWith f p k v)
@@ -82,11 +83,13 @@ putField-none s p v b =
 -- the bits above a field's do not count
 pub putField-same : (s : List ℕ) (p k v w : ℕ) → ((j : ℕ) → j < k → bit v j ≡ bit w j) → putField s p k v ≡ putField s p k w
 unfolding putField
-putField-same s p k v w e = bytesOf-ext (length s) (bitWith (bitAt s) p k v) (bitWith (bitAt s) p k w) (λ n h. go n (decLt n p) (decLt n (p + k)))
+putField-same s p k v w e =
+    bytesOf-ext (length s) (bitWith (bitAt s) p k v) (bitWith (bitAt s) p k w) (λ n h. go n (decLt n p) (decLt n (p + k)))
   where
     go : (n : ℕ) → Dec (n < p) → Dec (n < p + k) → bitWith (bitAt s) p k v n ≡ bitWith (bitAt s) p k w n
     go n (yes a) b = bitWith-below (bitAt s) p k v n a ∙ sym (bitWith-below (bitAt s) p k w n a)
-    go n (no a) (yes b) = bitWith-in (bitAt s) p k v n (omega arith) b ∙ e (n - p) (omega arith) ∙ sym (bitWith-in (bitAt s) p k w n (omega arith) b)
+    go n (no a) (yes b) =
+        bitWith-in (bitAt s) p k v n (omega arith) b ∙ e (n - p) (omega arith) ∙ sym (bitWith-in (bitAt s) p k w n (omega arith) b)
     go n (no a) (no b) = bitWith-above (bitAt s) p k v n (omega arith) ∙ sym (bitWith-above (bitAt s) p k w n (omega arith))
 
 -- a field with n bits more at its top
@@ -104,24 +107,28 @@ module _ (s : List ℕ) (p k n v : ℕ) where
       x = v / 2 ^ k
 
       go : Dec (m < p) → Dec (m < p + k) → Dec (m < p + k + n) → bitWith part (p + k) n x m ≡ bitWith f p (k + n) v m
-      go (yes a) b c = bitWith-below part (p + k) n x m (omega arith) ∙ bitAt-putField s p k v m h ∙ bitWith-below f p k v m a ∙ sym (bitWith-below f p (k + n) v m a)
+      go (yes a) b c = bitWith-below part (p + k) n x m (omega arith) ∙ bitAt-putField s p k v m h ∙ bitWith-below f p k v m a
+          ∙ sym (bitWith-below f p (k + n) v m a)
       go (no a) (yes b) c =
           bitWith-below part (p + k) n x m b ∙ bitAt-putField s p k v m h ∙ bitWith-in f p k v m (omega arith) b
           ∙ sym (bitWith-in f p (k + n) v m (omega arith) (omega arith))
       go (no a) (no b) (yes c) =
           let e : k + (m - (p + k)) ≡ m - p = omega arith in
-          bitWith-in part (p + k) n x m (omega arith) c ∙ down-bit v k (m - (p + k)) ∙ ap (bit v) e ∙ sym (bitWith-in f p (k + n) v m (omega arith) (omega arith))
+          bitWith-in part (p + k) n x m (omega arith) c ∙ down-bit v k (m - (p + k)) ∙ ap (bit v) e
+          ∙ sym (bitWith-in f p (k + n) v m (omega arith) (omega arith))
       go (no a) (no b) (no c) =
           bitWith-above part (p + k) n x m (omega arith) ∙ bitAt-putField s p k v m h ∙ bitWith-above f p k v m (omega arith)
           ∙ sym (bitWith-above f p (k + n) v m (omega arith))
 
   putField-more : putField (putField s p k v) (p + k) n (v / 2 ^ k) ≡ putField s p (k + n) v
   putField-more =
-      opened (putField s p k v) (p + k) n (v / 2 ^ k) ∙ ap (λ (m : ℕ). bytesOf m (bitWith part (p + k) n (v / 2 ^ k))) (length-putField s p k v)
+      opened (putField s p k v) (p + k) n (v / 2 ^ k) ∙ ap (λ (m : ℕ). bytesOf m (bitWith part (p + k) n (v / 2 ^ k)))
+      (length-putField s p k v)
       ∙ bytesOf-ext (length s) (bitWith part (p + k) n (v / 2 ^ k)) (bitWith (bitAt s) p (k + n) v) bit-more ∙ sym (opened s p (k + n) v)
 
 -- the code's loops put n bits more
-pub putField-step : (s₀ s₁ s₂ : List ℕ) (p k n v : ℕ) → s₁ ≡ putField s₀ p k v → s₂ ≡ putField s₁ (p + k) n (v / 2 ^ k) → s₂ ≡ putField s₀ p (k + n) v
+pub putField-step : (s₀ s₁ s₂ : List ℕ) (p k n v : ℕ) → s₁ ≡ putField s₀ p k v → s₂ ≡ putField s₁ (p + k) n (v / 2 ^ k)
+    → s₂ ≡ putField s₀ p (k + n) v
 putField-step s₀ s₁ s₂ p k n v e₁ e₂ = e₂ ∙ ap (λ (s : List ℕ). putField s (p + k) n (v / 2 ^ k)) e₁ ∙ putField-more s₀ p k n v
 
 -- the m bits from bit b on, put back with a field in them
@@ -156,10 +163,13 @@ putField-byte s i w bytes h =
         ∙ sym (field-is g (8 * i) 8 x
         (λ j q.
         let d : 8 * i + j - 8 * i ≡ j = omega arith in
-        bitWith-in (bitAt s) (8 * i) 8 w (8 * i + j) (omega arith) (omega arith) ∙ ap (bit w) d ∙ sym (low-bit 8 w j q)) (mod-lt w (pow-pos 8))))
+        bitWith-in (bitAt s) (8 * i) 8 w (8 * i + j) (omega arith) (omega arith) ∙ ap (bit w) d ∙ sym (low-bit 8 w j q))
+        (mod-lt w (pow-pos 8))))
     go m (no e) (yes l) =
         getD-set-other s i m x 0 e
-        ∙ sym (field-is g (8 * m) 8 (getD s m 0) (λ j q. bitWith-below (bitAt s) (8 * i) 8 w (8 * m + j) (omega arith) ∙ bitAt-byte s m j q) (bytes m))
+        ∙ sym (field-is g (8 * m) 8 (getD s m 0) (λ j q. bitWith-below (bitAt s) (8 * i) 8 w (8 * m + j) (omega arith) ∙ bitAt-byte s m j q)
+        (bytes m))
     go m (no e) (no l) =
         getD-set-other s i m x 0 e
-        ∙ sym (field-is g (8 * m) 8 (getD s m 0) (λ j q. bitWith-above (bitAt s) (8 * i) 8 w (8 * m + j) (omega arith) ∙ bitAt-byte s m j q) (bytes m))
+        ∙ sym (field-is g (8 * m) 8 (getD s m 0) (λ j q. bitWith-above (bitAt s) (8 * i) 8 w (8 * m + j) (omega arith) ∙ bitAt-byte s m j q)
+        (bytes m))

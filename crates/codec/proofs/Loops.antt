@@ -12,13 +12,15 @@ use lib.Seq.{drop-cons, set-at, append-snoc, getD-append-add, length-take-le}
 use Rattle.standard.specs.Lists.{listFrom, parts, joined, each, after}
 use Rattle.standard.specs.Bits.{odd, bit, bitAt, bitsIn, field, bytesFor, bytesOf, nth, numberOf, bitsOf}
 use Rattle.standard.specs.Record.{D}
-use Rattle.standard.specs.Frame.{dataBits, sendFrame, sendNext, receiveFrame, receiveNext, mark, sendFrames, sendAfter, receiveFrames, receiveMarks, receiveAfter}
+use Rattle.standard.specs.Frame.{dataBits, sendFrame, sendNext, receiveFrame, receiveNext, mark, sendFrames, sendAfter, receiveFrames}
+use Rattle.standard.specs.Frame.{receiveMarks, receiveAfter}
 use Rattle.standard.specs.Calls.{over}
 use Rattle.standard.specs.declared.Law.{Law}
 use Rattle.standard.specs.declared.LineState.{LineState}
 use Rattle.standard.specs.declared.Record.{Record}
 use Rattle.standard.proofs.Bits.{numberOf-at, numberOf-lt}
-use Rattle.standard.proofs.Frame.{length-sendFrames, length-receiveFrame, length-receiveFrames, length-receiveMarks, sendFrames-next, sendAfter-next, receiveFrames-next, receiveAfter-next, receiveMarks-next}
+use Rattle.standard.proofs.Frame.{length-sendFrames, length-receiveFrame, length-receiveFrames, length-receiveMarks, sendFrames-next}
+use Rattle.standard.proofs.Frame.{sendAfter-next, receiveFrames-next, receiveAfter-next, receiveMarks-next}
 use Rattle.bits.specs.PutField.{putField}
 use Rattle.bits.proofs.PutField.{length-putField}
 use Rattle.mapping.specs.declared.Mapping.{Mapping}
@@ -43,10 +45,19 @@ module _ (r : Record) (l : Law) (N : ℕ) (st : LineState) (bytes os₀ : List �
   pub sendable : (n width : ℕ) (m : Mapping) (vs : List ℕ) (ps : List (List ℕ)) (x : Carried) → Drawn pointTables r st N width m ps → n < N
       → vs ≡ listFrom (reciprocalOf (m .sizes)) 0 6 → x .past < 2 ^ 23 → Sendable r m vs ps x
   sendable n width m vs ps x d h ev low =
-      record { rate = d .allowed .rate; mapped = d .mapped; inverse = ev; points = d .tabled; holds = d .allowed .holds (omega arith); past = low }
+      record {
+        rate = d .allowed .rate;
+        mapped = d .mapped;
+        inverse = ev;
+        points = d .tabled;
+        holds = d .allowed .holds
+            (omega arith);
+        past = low;
+      }
 
   pub send-more : (n word : ℕ) (state next : LineState) (os six : List ℕ) → Sending r l N st ds os₀ n state os → n < N → 6 * N ≤ length os₀
-      → word ≡ field (bitAt bytes) (n * D r) (D r) → next ≡ sendNext state (bitsOf (D r) word) → six ≡ sendFrame r l state (bitsOf (D r) word)
+      → word ≡ field (bitAt bytes) (n * D r) (D r) → next ≡ sendNext state (bitsOf (D r) word)
+      → six ≡ sendFrame r l state (bitsOf (D r) word)
       → Sending r l N st ds os₀ (n + 1) next (putMid (6 * n) (6 * n + 6 - 6 * n) os six)
   send-more n word state next os six p h room ew en es =
       let part = take (D r) (drop (n * D r) ds) in
@@ -61,7 +72,8 @@ module _ (r : Record) (l : Law) (N : ℕ) (st : LineState) (bytes os₀ : List �
       record {
         done = omega arith;
         left = en ∙ ap₂ sendNext (p .left) bits ∙ sym (sendAfter-next r l n st ds);
-        long = ap length is ∙ length-append (sendFrames r l (n + 1) st ds) (drop (6 * (n + 1)) os₀) ∙ omega (arith, length-sendFrames r l (n + 1) st ds, length-drop (6 * (n + 1)) os₀);
+        long = ap length is ∙ length-append (sendFrames r l (n + 1) st ds) (drop (6 * (n + 1)) os₀)
+            ∙ omega (arith, length-sendFrames r l (n + 1) st ds, length-drop (6 * (n + 1)) os₀);
         octets = is;
       }
 
@@ -84,7 +96,8 @@ unfolding nth
 nth-right xs ys j = sym (getD-append-add xs ys j false)
 
 -- one mark more
-mark-more : (xs : List ℕ) (n v : ℕ) (buffer : List ℕ) → length xs ≡ n → n < length buffer → set (xs ++ drop n buffer) n v ≡ (xs ++ (v ∷ [])) ++ drop (n + 1) buffer
+mark-more : (xs : List ℕ) (n v : ℕ) (buffer : List ℕ) → length xs ≡ n → n < length buffer → set (xs ++ drop n buffer) n v ≡ (xs ++ (v ∷ []))
+    ++ drop (n + 1) buffer
 mark-more xs n v buffer e h =
     ap (λ (t : List ℕ). set (xs ++ t) n v) (drop-cons buffer n 0 h) ∙ set-at xs (getD buffer n 0) (drop (suc n) buffer) v n e
     ∙ sym (append-snoc xs v (drop (suc n) buffer)) ∙ ap (λ (k : ℕ). (xs ++ (v ∷ [])) ++ drop k buffer) (sym (add-one n))
@@ -105,15 +118,19 @@ module _ (r : Record) (l : Law) (N : ℕ) (st : LineState) (line bs₀ ms₀ : L
         marks = refl;
       }
 
-  pub receivable : (width : ℕ) (m : Mapping) (ls : List (List ℕ)) (x : Carried) → Drawn labelTables r st N width m ls → x .past < 2 ^ 23 → Receivable r m ls x
+  pub receivable : (width : ℕ) (m : Mapping) (ls : List (List ℕ)) (x : Carried) → Drawn labelTables r st N width m ls → x .past < 2 ^ 23
+      → Receivable r m ls x
   receivable width m ls x d low = record { rate = d .allowed .rate; mapped = d .mapped; labels = d .tabled; past = low }
 
-  pub receive-more : (n m word width place : ℕ) (state next : LineState) (bs bs′ ms part : List ℕ) → Receiving r l N st os bs₀ ms₀ n state bs ms → n < N → 6 * N ≤ length line → N ≤ length ms₀
-      → part ≡ take (6 * n + 6 - 6 * n) (drop (6 * n) line) → m ≡ mark r l part → next ≡ receiveNext r l state part → word ≡ numberOf (receiveFrame r l state part)
+  pub receive-more : (n m word width place : ℕ) (state next : LineState) (bs bs′ ms part : List ℕ)
+      → Receiving r l N st os bs₀ ms₀ n state bs ms → n < N → 6 * N ≤ length line → N ≤ length ms₀
+      → part ≡ take (6 * n + 6 - 6 * n) (drop (6 * n) line) → m ≡ mark r l part → next ≡ receiveNext r l state part
+      → word ≡ numberOf (receiveFrame r l state part)
       → width ≡ D r → place ≡ n * width → bs′ ≡ putField bs place width word → Receiving r l N st os bs₀ ms₀ (n + 1) next bs′ (set ms n m)
   receive-more n m word width place state next bs bs′ ms part p h room marked ep em en ew ed el eb =
       let six-wide : 6 * n + 6 - 6 * n ≡ 6 = omega arith in
-      let put : bs′ ≡ putField bs (n * D r) (D r) word = eb ∙ ap (λ (i : ℕ). putField bs i width word) el ∙ ap (λ (w : ℕ). putField bs (n * w) w word) ed in
+      let put : bs′ ≡ putField bs (n * D r) (D r) word = eb ∙ ap (λ (i : ℕ). putField bs i width word) el
+      ∙ ap (λ (w : ℕ). putField bs (n * w) w word) ed in
       let six : part ≡ take 6 (drop (n * 6) os) = ep ∙ ap (λ (k : ℕ). take k (drop (6 * n) line)) six-wide ∙ frame-octets line n N h room in
       let given : List Bool = receiveFrames r l n st os in
       let whole : given ++ receiveFrame r l state part ≡ receiveFrames r l (n + 1) st os =
@@ -134,7 +151,8 @@ module _ (r : Record) (l : Law) (N : ℕ) (st : LineState) (line bs₀ ms₀ : L
             ∙ ap (λ (k : ℕ). bitsOver k (nth (receiveFrames r l (n + 1) st os)) bs₀) e;
         longMarks = length-set ms n m ∙ p .longMarks;
         marks =
-            ap (λ (x : List ℕ). set x n m) (p .marks) ∙ mark-more (receiveMarks r l n os) n m ms₀ (length-receiveMarks r l n st os) (omega arith)
+            ap (λ (x : List ℕ). set x n m) (p .marks) ∙ mark-more (receiveMarks r l n os) n m ms₀ (length-receiveMarks r l n st os)
+            (omega arith)
             ∙ ap (λ (x : ℕ). (receiveMarks r l n os ++ (x ∷ [])) ++ drop (n + 1) ms₀) (em ∙ ap (mark r l) six)
             ∙ ap (λ (x : List ℕ). x ++ drop (n + 1) ms₀) (sym (receiveMarks-next r l n st os));
       }
@@ -148,15 +166,18 @@ module _ (r : Record) (l : Law) (N : ℕ) (st : LineState) (line bs₀ ms₀ : L
       × (ms ≡ over (receiveMarks r l N os) ms₀)
   unfolding nth
   receive-all n width state bs bs′ ms p h b room ed eb =
-      let put : bs′ ≡ putField bs (dataBits r N) (8 * bytesFor (dataBits r N) - dataBits r N) 0 = eb ∙ ap (λ (w : ℕ). putField bs (N * w) (8 * bytesFor (N * w) - N * w) 0) ed in
+      let put : bs′ ≡ putField bs (dataBits r N) (8 * bytesFor (dataBits r N) - dataBits r N) 0 = eb
+      ∙ ap (λ (w : ℕ). putField bs (N * w) (8 * bytesFor (N * w) - N * w) 0) ed in
       let e : n ≡ N = omega (arith, p .done) in
       let given : List Bool = receiveFrames r l N st os in
       let glong : length given ≡ N * D r = length-receiveFrames r l N st os in
       let z : dataBits r N + (8 * bytesFor (dataBits r N) - dataBits r N) ≡ 8 * bytesFor (dataBits r N) = omega arith in
       let y : n ≡ length (receiveMarks r l N os) = e ∙ sym (length-receiveMarks r l N st os) in (
         p .left ∙ ap (λ (i : ℕ). receiveAfter r l i st os) e,
-        put ∙ ap (λ (x : List ℕ). putField x (dataBits r N) (8 * bytesFor (dataBits r N) - dataBits r N) 0) (p .bits ∙ ap (λ (i : ℕ). bitsOver (dataBits r i) (nth (receiveFrames r l i st os)) bs₀) e)
-            ∙ bitsOver-more (nth given) (nth given) bs₀ (dataBits r N) (8 * bytesFor (dataBits r N) - dataBits r N) 0 (λ q i. refl) (λ j i. zeros given j glong)
+        put ∙ ap (λ (x : List ℕ). putField x (dataBits r N) (8 * bytesFor (dataBits r N) - dataBits r N) 0)
+            (p .bits ∙ ap (λ (i : ℕ). bitsOver (dataBits r i) (nth (receiveFrames r l i st os)) bs₀) e)
+            ∙ bitsOver-more (nth given) (nth given) bs₀ (dataBits r N) (8 * bytesFor (dataBits r N) - dataBits r N) 0 (λ q i. refl)
+            (λ j i. zeros given j glong)
             ∙ ap (λ (i : ℕ). bitsOver i (nth given) bs₀) z ∙ bitsOver-bytes (bytesFor (dataBits r N)) (nth given) bs₀ b room,
         p .marks ∙ ap₂ (λ (i j : ℕ). receiveMarks r l i os ++ drop j ms₀) e y,
       )
@@ -167,21 +188,25 @@ module _ (r : Record) (l : Law) (N : ℕ) (st : LineState) (line bs₀ ms₀ : L
 -- ---- bounds
 
 -- no call has more data bits than these
-pub few-bits : (r : Record) (n frames width : ℕ) → n ≤ frames → frames ≤ 1024 → width ≡ D r → r .drn ≤ 28 → (width ≤ 48) × (n * width ≤ 49152)
+pub few-bits : (r : Record) (n frames width : ℕ) → n ≤ frames → frames ≤ 1024 → width ≡ D r → r .drn ≤ 28 → (width ≤ 48)
+    × (n * width ≤ 49152)
 few-bits r n frames width a b e d =
     let w : width ≤ 48 = omega arith in
     (w, mul-le-mul {n₂ = 1024} {m₂ = 48} (omega arith) w)
 
 -- a part of six octets
 pub six-long : (xs : List ℕ) (n frames : ℕ) → n < frames → 6 * frames ≤ length xs → length (take (6 * n + 6 - 6 * n) (drop (6 * n) xs)) ≡ 6
-six-long xs n frames h l = let e : 6 * n + 6 - 6 * n ≡ 6 = omega arith in rw e (length-take-le 6 (drop (6 * n) xs) (rw length-drop (omega arith)))
+six-long xs n frames h l =
+    let e : 6 * n + 6 - 6 * n ≡ 6 = omega arith in rw e (length-take-le 6 (drop (6 * n) xs) (rw length-drop (omega arith)))
 
 -- the data buffer has room for frame n
-pub bits-room : (r : Record) (n frames width len : ℕ) → n < frames → width ≡ D r → bytesFor (dataBits r frames) ≤ len → n * width + width ≤ 8 * len
+pub bits-room : (r : Record) (n frames width len : ℕ) → n < frames → width ≡ D r → bytesFor (dataBits r frames) ≤ len
+    → n * width + width ≤ 8 * len
 bits-room r n frames width len h e room = omega (arith, mul-le-mul-right width h, ap (λ (w : ℕ). frames * w) e)
 
 -- a frame's data bits as a number
-pub word-fits : (r : Record) (l : Law) (st : LineState) (os : List ℕ) (word width : ℕ) → word ≡ numberOf (receiveFrame r l st os) → width ≡ D r → word < 2 ^ width
+pub word-fits : (r : Record) (l : Law) (st : LineState) (os : List ℕ) (word width : ℕ) → word ≡ numberOf (receiveFrame r l st os)
+    → width ≡ D r → word < 2 ^ width
 word-fits r l st os word width e d =
     let long : length (receiveFrame r l st os) ≡ width = length-receiveFrame r l st os ∙ sym d in
     rw (e, ← long) (numberOf-lt (receiveFrame r l st os))

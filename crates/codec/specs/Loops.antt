@@ -16,21 +16,24 @@ use Rattle.codec.specs.Allowed.{Allowed}
 use Rattle.codec.specs.Buffers.{bitsOver}
 
 -- the record r allows a call of N frames from the state st, and width, m and the tables ts are drawn up of it
-pub record Drawn (tables : Record → List (List ℕ)) (r : Record) (st : LineState) (N width : ℕ) (m : Mapping) (ts : List (List ℕ)) : Type 0 where
+pub record Drawn (tables : Record → List (List ℕ)) (r : Record) (st : LineState) (N width : ℕ) (m : Mapping)
+    (ts : List (List ℕ)) : Type 0 where
   pub allowed : Allowed r st N
   pub wide : width ≡ D r
   pub mapped : m ≡ mappingOf r
   pub tabled : ts ≡ tables r
 
 -- the data bits ds sent from the state st, into the octets os₀
-pub record Sending (r : Record) (l : Law) (N : ℕ) (st : LineState) (ds : List Bool) (os₀ : List ℕ) (n : ℕ) (state : LineState) (os : List ℕ) : Type 0 where
+pub record Sending (r : Record) (l : Law) (N : ℕ) (st : LineState) (ds : List Bool) (os₀ : List ℕ) (n : ℕ) (state : LineState)
+    (os : List ℕ) : Type 0 where
   pub done : n ≤ N
   pub left : state ≡ sendAfter r n st ds
   pub long : length os ≡ length os₀
   pub octets : os ≡ sendFrames r l n st ds ++ drop (6 * n) os₀
 
 -- the octets os received from the state st, into the data bytes bs₀ and the marks ms₀; bs are the bytes with the bits that are held
-pub record Receiving (r : Record) (l : Law) (N : ℕ) (st : LineState) (os bs₀ ms₀ : List ℕ) (n : ℕ) (state : LineState) (bs ms : List ℕ) : Type 0 where
+pub record Receiving (r : Record) (l : Law) (N : ℕ) (st : LineState) (os bs₀ ms₀ : List ℕ) (n : ℕ) (state : LineState)
+    (bs ms : List ℕ) : Type 0 where
   pub done : n ≤ N
   pub left : state ≡ receiveAfter r l n st os
   pub longBits : length bs ≡ length bs₀

@@ -15,18 +15,11 @@ ghost use mathlib.Core.List.{_++_};
 ghost use lib.Dec.{ltb};
 ghost use Rattle.standard.specs.First.{first};
 ghost use Rattle.standard.specs.Bits.{bitsIn, bytesOf, bytesFor, nth};
-ghost use Rattle.standard.specs.Record.{D};
 ghost use Rattle.standard.specs.Frame.{dataBits, sendFrames, sendAfter, receiveFrames, receiveMarks, receiveAfter};
 ghost use Rattle.standard.specs.Refusals.{outcomeAnswer, recordTests, lineTests, bufferTests, frameTests};
-ghost use Rattle.standard.specs.Calls.{over, sendCall, sendRefusal, sendLeft, sendOctets, receiveCall, receiveRefusal, receiveLeft, receiveBytes, receiveMarked};
+ghost use Rattle.standard.specs.Calls.{over, sendCall, sendRefusal, sendLeft, sendOctets, receiveCall, receiveRefusal, receiveLeft};
+ghost use Rattle.standard.specs.Calls.{receiveBytes, receiveMarked};
 ghost use Rattle.codec.specs.Allowed.{Allowed};
-
-// D: the bits of a data frame.
-fn frame_width(r: Record) -> usize
-    ensures { λ d. ⌜ d ≡ D r ⌝ }
-{
-    r.drn as usize + 20
-}
 
 // The bytes that the data bits of so many frames need.
 fn data_bytes(width: usize, frames: usize) -> usize
@@ -84,7 +77,7 @@ fn send_fault(r: Record, state: LineState, frames: usize, bytes: usize, octets: 
     if let Outcome::Refused(_) = fault {
         return fault;
     }
-    let needed = data_bytes(frame_width(r), frames);
+    let needed = data_bytes(constellation::d_of(r), frames);
     buffer_fault(bytes < needed, octets < 6 * frames)
 }
 
@@ -97,13 +90,14 @@ fn receive_fault(
     bytes: usize,
     marks: usize,
 ) -> Outcome
-    ensures { λ x. ⌜ outcomeAnswer x ≡ first (frameTests r state frames (ltb octets (6 * frames)) (ltb bytes (bytesFor (dataBits r frames)) || ltb marks frames)) ⌝ }
+    ensures { λ x. ⌜ outcomeAnswer x
+        ≡ first (frameTests r state frames (ltb octets (6 * frames)) (ltb bytes (bytesFor (dataBits r frames)) || ltb marks frames)) ⌝ }
 {
     let fault = call_fault(r, state, frames);
     if let Outcome::Refused(_) = fault {
         return fault;
     }
-    let needed = data_bytes(frame_width(r), frames);
+    let needed = data_bytes(constellation::d_of(r), frames);
     buffer_fault(octets < 6 * frames, (bytes < needed) | (marks < frames))
 }
 
@@ -118,14 +112,15 @@ fn send_frames(
 ) -> LineState
     requires { ⌜ Allowed r state frames × (6 * frames ≤ length (now octets)) ⌝ }
     ensures { λ x. ⌜ (x ≡ sendAfter r frames state (bitsIn (dataBits r frames) (now (bytes .entry))))
-        × (now (octets .exit) ≡ over (sendFrames r law frames state (bitsIn (dataBits r frames) (now (bytes .entry)))) (now (octets .entry))) ⌝ }
+        × (now (octets .exit) ≡ over (sendFrames r law frames state (bitsIn (dataBits r frames) (now (bytes .entry))))
+        (now (octets .entry))) ⌝ }
 {
     let mut points = [[0u8; 128]; 6];
     let mut labels = [[0u8; 128]; 6];
     let mapping = mapping::draw_up(r, &mut points, &mut labels);
     let sizes = mapping.sizes;
     let inverses = reciprocals_of(sizes);
-    let width = frame_width(r);
+    let width = constellation::d_of(r);
     let mut line = frame::carry(state);
     let mut n = 0;
     while n < frames {
@@ -156,15 +151,18 @@ fn receive_frames(
     bytes: &mut [u8],
     marks: &mut [u8],
 ) -> LineState
-    requires { ⌜ Allowed r state frames × (6 * frames ≤ length (now octets)) × (bytesFor (dataBits r frames) ≤ length (now bytes)) × (frames ≤ length (now marks)) ⌝ }
+    requires { ⌜ Allowed r state frames × (6 * frames ≤ length (now octets)) × (bytesFor (dataBits r frames) ≤ length (now bytes))
+        × (frames ≤ length (now marks)) ⌝ }
     ensures { λ x. ⌜ (x ≡ receiveAfter r law frames state (take (6 * frames) (now (octets .entry))))
-        × (now (bytes .exit) ≡ over (bytesOf (bytesFor (dataBits r frames)) (nth (receiveFrames r law frames state (take (6 * frames) (now (octets .entry)))))) (now (bytes .entry)))
+        × (now (bytes .exit)
+        ≡ over (bytesOf (bytesFor (dataBits r frames))
+        (nth (receiveFrames r law frames state (take (6 * frames) (now (octets .entry)))))) (now (bytes .entry)))
         × (now (marks .exit) ≡ over (receiveMarks r law frames (take (6 * frames) (now (octets .entry)))) (now (marks .entry))) ⌝ }
 {
     let mut points = [[0u8; 128]; 6];
     let mut labels = [[0u8; 128]; 6];
     let mapping = mapping::draw_up(r, &mut points, &mut labels);
-    let width = frame_width(r);
+    let width = constellation::d_of(r);
     let mut line = frame::carry(state);
     let mut pouring = Pouring {
         to: 0,
@@ -212,7 +210,8 @@ pub fn send(
     }
 }
 
-// The entry: turns 6 * frames octets into frames * D data bits and a mark for each frame. Refusals 4, 9, 10, 25 and 11 to 17, the first that applies.
+// The entry: turns 6 * frames octets into frames * D data bits and a mark for each frame. Refusals 4, 9, 10, 25 and 11 to 17, the first
+// that applies.
 pub fn receive(
     r: Record,
     law: Law,
@@ -222,10 +221,13 @@ pub fn receive(
     bytes: &mut [u8],
     marks: &mut [u8],
 ) -> FramesDone
-    ensures { λ x. ⌜ (outcomeAnswer (x .outcome) ≡ receiveRefusal state (receiveCall r law frames (now (octets .entry)) (now (bytes .entry)) (now (marks .entry))))
+    ensures { λ x. ⌜ (outcomeAnswer (x .outcome) ≡ receiveRefusal state
+        (receiveCall r law frames (now (octets .entry)) (now (bytes .entry)) (now (marks .entry))))
         × (x .state ≡ receiveLeft state (receiveCall r law frames (now (octets .entry)) (now (bytes .entry)) (now (marks .entry))))
-        × (now (bytes .exit) ≡ receiveBytes state (receiveCall r law frames (now (octets .entry)) (now (bytes .entry)) (now (marks .entry))))
-        × (now (marks .exit) ≡ receiveMarked state (receiveCall r law frames (now (octets .entry)) (now (bytes .entry)) (now (marks .entry)))) ⌝ }
+        × (now (bytes .exit)
+        ≡ receiveBytes state (receiveCall r law frames (now (octets .entry)) (now (bytes .entry)) (now (marks .entry))))
+        × (now (marks .exit) ≡ receiveMarked state
+        (receiveCall r law frames (now (octets .entry)) (now (bytes .entry)) (now (marks .entry)))) ⌝ }
 {
     let fault = receive_fault(r, state, frames, octets.len(), bytes.len(), marks.len());
     if let Outcome::Refused(_) = fault {

@@ -3,7 +3,8 @@ use mathlib.Core.Path.{_≡_, refl, sym, ap, _∙_}
 use mathlib.Core.Logic.{_⊎_, inl, inr}
 use Prim.Native.Nat.{ℕ, zero, suc, _+_, _*_, _/_, _%_, _^_, _≤_, _<_}
 use mathlib.Core.List.{List, [], _∷_}
-use native.Mathlib.Nat.{mul-comm, mul-assoc, suc-mul, mul-pos, mul-le-mul, mul-le-mul-left, mul-le-mul-right, lt-of-lt-of-le, eq-zero-or-pos, not-suc-le-zero}
+use native.Mathlib.Nat.{mul-comm, mul-assoc, suc-mul, mul-pos, mul-le-mul, mul-le-mul-left, mul-le-mul-right, lt-of-lt-of-le}
+use native.Mathlib.Nat.{eq-zero-or-pos, not-suc-le-zero}
 use native.Mathlib.Nat.{mod-lt, div-mul-le-self, div-le-self, div-div-eq-div-mul, div-lt-iff-lt-mul, lt-div-mul-add}
 use native.Mathlib.Numerals.{add-one}
 use native.Mathlib.Decide.{decLt}
@@ -55,7 +56,8 @@ quotient n M v small pos i =
       where
         spread : (q : ℕ) → (q * 2 ^ 28 + 2 ^ 28) * M ≡ (q * M + M) * 2 ^ 28
         spread q =
-            ap (λ (y : ℕ). y * M) (sym (suc-mul q (2 ^ 28))) ∙ mul-assoc (suc q) (2 ^ 28) M ∙ ap (λ (y : ℕ). suc q * y) (mul-comm (2 ^ 28) M)
+            ap (λ (y : ℕ). y * M) (sym (suc-mul q (2 ^ 28))) ∙ mul-assoc (suc q) (2 ^ 28) M
+            ∙ ap (λ (y : ℕ). suc q * y) (mul-comm (2 ^ 28) M)
             ∙ sym (mul-assoc (suc q) M (2 ^ 28)) ∙ ap (λ (y : ℕ). y * 2 ^ 28) (suc-mul q M)
 
 -- what is left is no larger
@@ -145,16 +147,20 @@ module _ (Ms : List ℕ) (R : ℕ) where
       regroup : (a b c d e f : ℕ) → a * (b * (c * (d * (e * (f * 1))))) ≡ d * e * f * (a * b * c)
       regroup a b c d e f =
           let x : d * (e * (f * 1)) ≡ d * e * f = ap (λ (y : ℕ). d * (e * y)) (omega arith) ∙ sym (mul-assoc d e f) in
-          ap (λ (y : ℕ). a * (b * (c * y))) x ∙ sym (mul-assoc a b (c * (d * e * f))) ∙ sym (mul-assoc (a * b) c (d * e * f)) ∙ mul-comm (a * b * c) (d * e * f)
+          ap (λ (y : ℕ). a * (b * (c * y))) x ∙ sym (mul-assoc a b (c * (d * e * f))) ∙ sym (mul-assoc (a * b) c (d * e * f))
+          ∙ mul-comm (a * b * c) (d * e * f)
 
   -- a number m can be divided by size i
   pub by-size : (vs : List ℕ) → Sized Ms R → vs ≡ listFrom (reciprocalOf Ms) 0 6 → (i : ℕ) → i < 6 → (m : ℕ) → m < 2 ^ 21
       → (m < 2 ^ 21) × (0 < M i) × (M i ≤ 128) × (getD vs i 0 ≡ reciprocal (M i))
   by-size vs s e i h m l = (l, s .positive i h, s .few i, ap (λ (xs : List ℕ). getD xs i 0) e ∙ getD-list (reciprocalOf Ms) 0 6 i h)
 
-  pub six-labels : (x0 x1 x2 x3 x4 x5 q0 q3 : ℕ) → Sized Ms R → (x0 ≡ R % threeOf Ms % M 0) × (q0 ≡ R % threeOf Ms / M 0) → (x1 ≡ q0 % M 1) × (x2 ≡ q0 / M 1)
-      → (x3 ≡ R / threeOf Ms % M 3) × (q3 ≡ R / threeOf Ms / M 3) → (x4 ≡ q3 % M 4) × (x5 ≡ q3 / M 4) → x0 ∷ x1 ∷ x2 ∷ x3 ∷ x4 ∷ x5 ∷ [] ≡ labels Ms R
+  pub six-labels : (x0 x1 x2 x3 x4 x5 q0 q3 : ℕ) → Sized Ms R → (x0 ≡ R % threeOf Ms % M 0) × (q0 ≡ R % threeOf Ms / M 0) → (x1 ≡ q0 % M 1)
+      × (x2 ≡ q0 / M 1)
+      → (x3 ≡ R / threeOf Ms % M 3) × (q3 ≡ R / threeOf Ms / M 3) → (x4 ≡ q3 % M 4) × (x5 ≡ q3 / M 4)
+      → x0 ∷ x1 ∷ x2 ∷ x3 ∷ x4 ∷ x5 ∷ [] ≡ labels Ms R
   six-labels x0 x1 x2 x3 x4 x5 q0 q3 s a b c d =
       rw (a .0, b .0, b .1, a .1, c .0, d .0, d .1, c .1)
-      (two-halves (M 0) (M 1) (M 2) (M 3) (M 4) (M 5) R (s .positive 0 (omega arith)) (s .positive 1 (omega arith)) (s .positive 2 (omega arith))
+      (two-halves (M 0) (M 1) (M 2) (M 3) (M 4) (M 5) R (s .positive 0 (omega arith)) (s .positive 1 (omega arith))
+      (s .positive 2 (omega arith))
       ∙ ap (λ (xs : List ℕ). labels xs R) (sym (apart (s .long))))

@@ -50,10 +50,12 @@ six : (w : ℕ) → bitsOf 6 (w % 64) ≡ bitsOf 6 w
 six w = bits-ext 6 (w % 64) w (λ j l. low-bit 6 w j l)
 
 pub coded-is : (g : Bool) (w : ℕ) → coded g (w % 64) ≡ numberOf (signsOf g (bitsOf 6 w))
-coded-is g w = eqb→eq (coded g (w % 64)) (numberOf (signsOf g (bitsOf 6 (w % 64)))) (every-at (codedTest g) 64 (all-coded g) (w % 64) (omega arith)) ∙ ap (λ (bs : List Bool). numberOf (signsOf g bs)) (six w)
+coded-is g w = eqb→eq (coded g (w % 64)) (numberOf (signsOf g (bitsOf 6 (w % 64))))
+    (every-at (codedTest g) 64 (all-coded g) (w % 64) (omega arith)) ∙ ap (λ (bs : List Bool). numberOf (signsOf g bs)) (six w)
 
 pub back-is : (g : Bool) (w : ℕ) → back g (w % 64) ≡ numberOf (signBits g (bitsOf 6 w))
-back-is g w = eqb→eq (back g (w % 64)) (numberOf (signBits g (bitsOf 6 (w % 64)))) (every-at (backTest g) 64 (all-back g) (w % 64) (omega arith)) ∙ ap (λ (bs : List Bool). numberOf (signBits g bs)) (six w)
+back-is g w = eqb→eq (back g (w % 64)) (numberOf (signBits g (bitsOf 6 (w % 64))))
+    (every-at (backTest g) 64 (all-back g) (w % 64) (omega arith)) ∙ ap (λ (bs : List Bool). numberOf (signBits g bs)) (six w)
 
 -- ---- signs as a number
 

@@ -10,7 +10,8 @@ use lib.ListN.{length}
 use lib.Pow.{pow-pos, shl-exact, shr-shr, mod-pow-add, mod-mod-pow, field as pow-field, high as pow-high, low as pow-low}
 use Rattle.standard.specs.Bits.{_⊕_, weight, positive, odd, bit, field, numberOf, bitsOf}
 use Rattle.standard.specs.Scrambler.{taps, push, pushAll, scramble, descramble}
-use Rattle.standard.proofs.Bits.{xor-cancel, weight-lt, odd-weight, weight-odd, bit-suc, field-lt, field-bit, field-ext, field-is, numberOf-lt, length-bitsOf, bits-back, field-split}
+use Rattle.standard.proofs.Bits.{xor-cancel, weight-lt, odd-weight, weight-odd, bit-suc, field-lt, field-bit, field-ext, field-is}
+use Rattle.standard.proofs.Bits.{numberOf-lt, length-bitsOf, bits-back, field-split}
 use Rattle.standard.proofs.Scrambler.{length-scramble, scramble-append, pushAll-append, pushAll-lt}
 use Rattle.standard.proofs.Words.{half, bits-ext, number-append, bits-number}
 use Rattle.bits.proofs.Bits.{low-bit, down-bit, xor-bit}
@@ -94,7 +95,8 @@ abbrev pub mix : ℕ → ℕ → ℕ
 mix w a = bitXor (bitXor w (a / 2 ^ 5)) a
 
 mix-bit : (w a j : ℕ) → bit (mix w a) j ≡ bit w j ⊕ (bit a (5 + j) ⊕ bit a j)
-mix-bit w a j = xor-bit (bitXor w (a / 2 ^ 5)) a j ∙ ap (λ (b : Bool). b ⊕ bit a j) (xor-bit w (a / 2 ^ 5) j ∙ ap (λ (b : Bool). bit w j ⊕ b) (down-bit a 5 j)) ∙ assoc (bit w j) (bit a (5 + j)) (bit a j)
+mix-bit w a j = xor-bit (bitXor w (a / 2 ^ 5)) a j ∙ ap (λ (b : Bool). b ⊕ bit a j)
+    (xor-bit w (a / 2 ^ 5) j ∙ ap (λ (b : Bool). bit w j ⊕ b) (down-bit a 5 j)) ∙ assoc (bit w j) (bit a (5 + j)) (bit a j)
   where
     assoc : (x y z : Bool) → x ⊕ y ⊕ z ≡ x ⊕ (y ⊕ z)
     assoc true true true = refl
@@ -119,7 +121,8 @@ unfolding bitsOf descramble
 descramble-mix zero h w = refl
 descramble-mix (suc k) h w =
     ap₂ _∷_ (sym (mix-odd h w))
-    (descramble-mix k (push h (odd w)) (w / 2) ∙ ap (λ (x : ℕ). bitsOf k (mix (w / 2) x)) (stream-next h w) ∙ ap (bitsOf k) (sym (mix-half w (stream h w))))
+    (descramble-mix k (push h (odd w)) (w / 2) ∙ ap (λ (x : ℕ). bitsOf k (mix (w / 2) x)) (stream-next h w)
+    ∙ ap (bitsOf k) (sym (mix-half w (stream h w))))
 
 scramble-descramble : (h : ℕ) (ss : List Bool) → scramble h (descramble h ss) ≡ ss
 unfolding scramble descramble
@@ -144,7 +147,8 @@ scramble-mix n h d few =
 in-word : (x n : ℕ) → n ≤ 41 → x % 2 ^ 64 / 2 ^ n % 2 ^ 23 ≡ x / 2 ^ n % 2 ^ 23
 in-word x n few =
     let e : 64 ≡ 41 - n + 23 + n = omega arith in
-    ap (λ (k : ℕ). x % 2 ^ k / 2 ^ n % 2 ^ 23) e ∙ ap (λ (y : ℕ). y % 2 ^ 23) (pow-field x (41 - n + 23) n) ∙ mod-mod-pow (x / 2 ^ n) (41 - n) 23
+    ap (λ (k : ℕ). x % 2 ^ k / 2 ^ n % 2 ^ 23) e ∙ ap (λ (y : ℕ). y % 2 ^ 23) (pow-field x (41 - n + 23) n)
+    ∙ mod-mod-pow (x / 2 ^ n) (41 - n) 23
 
 module _ (p w : ℕ) (low : p < 2 ^ 23) where
   abbrev all : ℕ
@@ -157,7 +161,8 @@ module _ (p w : ℕ) (low : p < 2 ^ 23) where
       let q : stream (turned p) w ≡ p + 2 ^ 23 * w = ap (λ (x : ℕ). x + 2 ^ 23 * w) (turned-back p low) in
       let b : stream (turned p) w / 2 ^ 23 ≡ w = omega arith in
       let c : stream (turned p) w % 2 ^ 23 ≡ p = omega arith in
-      ap (bitOr p) a ∙ or-shifted-r (w % 2 ^ 41) 23 p low ∙ sym (mod-pow-add (stream (turned p) w) 41 23 ∙ ap₂ (λ (x y : ℕ). x % 2 ^ 41 * 2 ^ 23 + y) b c)
+      ap (bitOr p) a ∙ or-shifted-r (w % 2 ^ 41) 23 p low
+      ∙ sym (mod-pow-add (stream (turned p) w) 41 23 ∙ ap₂ (λ (x y : ℕ). x % 2 ^ 41 * 2 ^ 23 + y) b c)
 
   pub descrambled : (n : ℕ) → n ≤ 48 → mix w all % 2 ^ n ≡ numberOf (descramble (turned p) (bitsOf n w))
   descrambled n few =
@@ -177,7 +182,8 @@ module _ (p w : ℕ) (low : p < 2 ^ 23) where
       ap (λ (x : ℕ). x / 2 ^ n % 2 ^ 23) all-is ∙ in-word a n few ∙ sym (turned-after n (turned p) w)
 
   -- and after 20 bits or more, which leave three bits of the past at most
-  pub after-frame : (n : ℕ) → 20 ≤ n → n ≤ 48 → bitOr (p / 2 ^ 20) (w * 2 ^ 3 % 2 ^ 64) / 2 ^ (n - 20) % 2 ^ 23 ≡ turned (pushAll (turned p) (bitsOf n w))
+  pub after-frame : (n : ℕ) → 20 ≤ n → n ≤ 48 → bitOr (p / 2 ^ 20) (w * 2 ^ 3 % 2 ^ 64) / 2 ^ (n - 20) % 2 ^ 23
+      ≡ turned (pushAll (turned p) (bitsOf n w))
   after-frame n many few =
       let a = stream (turned p) w in
       let q : a ≡ p + 2 ^ 23 * w = ap (λ (x : ℕ). x + 2 ^ 23 * w) (turned-back p low) in
@@ -185,17 +191,24 @@ module _ (p w : ℕ) (low : p < 2 ^ 23) where
       let few-left : p / 2 ^ 20 < 2 ^ 3 = omega arith in
       let high : a / 2 ^ 20 ≡ w * 2 ^ 3 + p / 2 ^ 20 = omega arith in
       let cut : a / 2 ^ 20 % 2 ^ 64 ≡ w % 2 ^ 61 * 2 ^ 3 + p / 2 ^ 20
-      = ap (λ (x : ℕ). x % 2 ^ 64) high ∙ mod-pow-add (w * 2 ^ 3 + p / 2 ^ 20) 61 3 ∙ ap₂ (λ (x y : ℕ). x % 2 ^ 61 * 2 ^ 3 + y) (pow-high w 3 few-left) (pow-low w 3 few-left) in
+      = ap (λ (x : ℕ). x % 2 ^ 64) high ∙ mod-pow-add (w * 2 ^ 3 + p / 2 ^ 20) 61 3
+      ∙ ap₂ (λ (x y : ℕ). x % 2 ^ 61 * 2 ^ 3 + y) (pow-high w 3 few-left) (pow-low w 3 few-left) in
       let e : 20 + (n - 20) ≡ n = omega arith in
       ap (λ (x : ℕ). x / 2 ^ (n - 20) % 2 ^ 23) (ap (bitOr (p / 2 ^ 20)) up ∙ or-shifted-r (w % 2 ^ 61) 3 (p / 2 ^ 20) few-left ∙ sym cut)
-      ∙ in-word (a / 2 ^ 20) (n - 20) (omega arith) ∙ ap (λ (x : ℕ). x % 2 ^ 23) (shr-shr a 20 (n - 20) ∙ ap (λ (k : ℕ). a / 2 ^ k) e) ∙ sym (turned-after n (turned p) w)
+      ∙ in-word (a / 2 ^ 20) (n - 20) (omega arith) ∙ ap (λ (x : ℕ). x % 2 ^ 23) (shr-shr a 20 (n - 20) ∙ ap (λ (k : ℕ). a / 2 ^ k) e)
+      ∙ sym (turned-after n (turned p) w)
 
-pub scrambled : (p d n w q : ℕ) → p < 2 ^ 23 → n ≤ 18 → w ≡ mix d p % 2 ^ n → q ≡ turned (pushAll (turned p) (bitsOf n w)) → Scrambled p d n w q
+pub scrambled : (p d n w q : ℕ) → p < 2 ^ 23 → n ≤ 18 → w ≡ mix d p % 2 ^ n → q ≡ turned (pushAll (turned p) (bitsOf n w))
+    → Scrambled p d n w q
 scrambled p d n w q l few ew eq =
     let list : bitsOf n w ≡ scramble (turned p) (bitsOf n d)
     = ap (bitsOf n) (ew ∙ ap (λ (x : ℕ). mix d x % 2 ^ n) (sym (turned-back p l))) ∙ sym (scramble-mix n (turned p) d few) in
     let small : w < 2 ^ n = rw ew (mod-lt (mix d p) (pow-pos n)) in
-    record { out = sym (bits-number n w small) ∙ ap numberOf list; left = eq ∙ ap (λ (ss : List Bool). turned (pushAll (turned p) ss)) list }
+    record {
+      out = sym (bits-number n w small) ∙ ap numberOf list;
+      left = eq ∙ ap
+          (λ (ss : List Bool). turned (pushAll (turned p) ss)) list;
+    }
 
 -- ---- two parts, joined
 
@@ -214,12 +227,16 @@ scrambled-join p d m n k v w q r e fits a b =
     let two = scramble g (bitsOf n (d / 2 ^ m)) in
     let back : turned q ≡ g = ap turned (a .left) ∙ turned-back g (pushAll-lt h one (turned-lt p)) in
     let whole : one ++ two ≡ scramble h (bitsOf k d)
-    = sym (scramble-append h (bitsOf m d) (bitsOf n (d / 2 ^ m))) ∙ ap (scramble h) (sym (bits-split m n d) ∙ ap (λ (j : ℕ). bitsOf j d) e) in
+    = sym (scramble-append h (bitsOf m d) (bitsOf n (d / 2 ^ m))) ∙ ap (scramble h)
+    (sym (bits-split m n d) ∙ ap (λ (j : ℕ). bitsOf j d) e) in
     let long : length one ≡ m = length-scramble h (bitsOf m d) ∙ length-bitsOf m d in
     record {
       out =
-          ap (bitOr v) (shl-exact n m 64 (scrambled-lt b .0) (omega arith)) ∙ or-shifted-r w m v (scrambled-lt a .0) ∙ add-comm (w * 2 ^ m) v
-          ∙ ap₂ _+_ (a .out) (mul-comm w (2 ^ m) ∙ ap₂ (λ (j x : ℕ). 2 ^ j * x) (sym long) (b .out ∙ ap (λ (x : ℕ). numberOf (scramble x (bitsOf n (d / 2 ^ m)))) back))
+          ap (bitOr v) (shl-exact n m 64 (scrambled-lt b .0) (omega arith)) ∙ or-shifted-r w m v (scrambled-lt a .0)
+          ∙ add-comm (w * 2 ^ m) v
+          ∙ ap₂ _+_ (a .out)
+          (mul-comm w (2 ^ m) ∙ ap₂ (λ (j x : ℕ). 2 ^ j * x) (sym long)
+          (b .out ∙ ap (λ (x : ℕ). numberOf (scramble x (bitsOf n (d / 2 ^ m)))) back))
           ∙ sym (number-append one two) ∙ ap numberOf whole;
       left =
           b .left ∙ ap (λ (x : ℕ). turned (pushAll x (scramble x (bitsOf n (d / 2 ^ m))))) back
@@ -228,7 +245,8 @@ scrambled-join p d m n k v w q r e fits a b =
 
 -- ---- a frame's bits, the first n of m
 
-pub scrambled-first : (p d n m v cut q l : ℕ) → n ≤ m → Scrambled p d m v q → cut ≡ 2 ^ n → l ≡ turned (pushAll (turned p) (bitsOf n (v % cut))) → Scrambled p d n (v % cut) l
+pub scrambled-first : (p d n m v cut q l : ℕ) → n ≤ m → Scrambled p d m v q → cut ≡ 2 ^ n
+    → l ≡ turned (pushAll (turned p) (bitsOf n (v % cut))) → Scrambled p d n (v % cut) l
 scrambled-first p d n m v cut q l few r ec el =
     let h = turned p in
     let one = scramble h (bitsOf n d) in
@@ -236,7 +254,8 @@ scrambled-first p d n m v cut q l few r ec el =
     let long : length one ≡ n = length-scramble h (bitsOf n d) ∙ length-bitsOf n d in
     let e : n + (m - n) ≡ m = omega arith in
     let whole : scramble h (bitsOf m d) ≡ one ++ two
-    = ap (scramble h) (ap (λ (j : ℕ). bitsOf j d) (sym e) ∙ bits-split n (m - n) d) ∙ scramble-append h (bitsOf n d) (bitsOf (m - n) (d / 2 ^ n)) in
+    = ap (scramble h) (ap (λ (j : ℕ). bitsOf j d) (sym e) ∙ bits-split n (m - n) d)
+    ∙ scramble-append h (bitsOf n d) (bitsOf (m - n) (d / 2 ^ n)) in
     let value : v ≡ numberOf two * 2 ^ n + numberOf one
     = r .out ∙ ap numberOf whole ∙ number-append one two ∙ ap (λ (j : ℕ). numberOf one + 2 ^ j * numberOf two) long
     ∙ add-comm (numberOf one) (2 ^ n * numberOf two) ∙ ap (λ (x : ℕ). x + numberOf one) (mul-comm (2 ^ n) (numberOf two)) in

@@ -1,3 +1,4 @@
+// K and D, masks with their sizes, membership and labels, and what a record is refused for.
 use bits::above;
 use bits::bit_of;
 use standard::Outcome;
@@ -6,14 +7,27 @@ use standard::Refusal;
 ghost use mathlib.Core.Path.{_≡_};
 ghost use Prim.Native.Nat.{_<_, _≤_, max};
 ghost use Rattle.standard.specs.First.{first};
-ghost use Rattle.standard.specs.Record.{indexOf, topIndex};
+ghost use Rattle.standard.specs.Record.{indexOf, topIndex, K, D};
 ghost use Rattle.standard.specs.Cp.{within};
 ghost use Rattle.standard.specs.Constellation.{sizeOf, labelOf, sizes};
 ghost use Rattle.standard.specs.Modulus.{product};
-ghost use Rattle.standard.specs.Refusals.{outcomeAnswer, indexTooLarge, grantedBelowFullRate, intervalEmpty, productTooSmall, maskAboveIndices, emptyTests, rateTests, recordTests};
+ghost use Rattle.standard.specs.Refusals.{outcomeAnswer, indexTooLarge, grantedBelowFullRate, intervalEmpty, productTooSmall};
+ghost use Rattle.standard.specs.Refusals.{maskAboveIndices, emptyTests, rateTests, recordTests};
 ghost use Rattle.constellation.specs.Mask.{has, maskOf, Indexed};
 
-// Masks: sizes, membership and labels, and what a record is refused for.
+// K: the bits of a data frame's number R.
+pub fn k_of(r: Record) -> usize
+    ensures { λ k. ⌜ k ≡ K r ⌝ }
+{
+    r.drn as usize + 14
+}
+
+// D: the bits of a data frame.
+pub fn d_of(r: Record) -> usize
+    ensures { λ d. ⌜ d ≡ D r ⌝ }
+{
+    k_of(r) + 6
+}
 
 // A mask: Ucodes 0 to 63 and 64 to 127, a bit for each.
 pub struct Mask {
@@ -154,7 +168,7 @@ fn product_too_small(r: Record) -> bool
     if !rated(r) {
         return false;
     }
-    product_of(r) < 1u64 << (r.drn + 14)
+    product_of(r) < 1u64 << k_of(r)
 }
 
 // Refusal 12: a mask above g is not empty.

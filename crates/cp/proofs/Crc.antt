@@ -54,7 +54,8 @@ step-xor r w lr lw = ap₂ (λ (b : Bool) (x : ℕ). cond b (bitXor x 0x8408) x)
     lowest : odd (bitXor r w) ⊕ false ≡ odd r ⊕ odd w
     lowest = keep (odd (bitXor r w)) ∙ simp div-one at (xor-bit r w 0)
 
-    go : (b : Bool) → cond b (bitXor (bitXor (r / 2) (w / 2)) 0x8408) (bitXor (r / 2) (w / 2)) ≡ bitXor (cond b (bitXor (r / 2) 0x8408) (r / 2)) (w / 2)
+    go : (b : Bool) → cond b (bitXor (bitXor (r / 2) (w / 2)) 0x8408) (bitXor (r / 2) (w / 2))
+        ≡ bitXor (cond b (bitXor (r / 2) 0x8408) (r / 2)) (w / 2)
     go true = xor-swap 16 (r / 2) (w / 2) 0x8408 (omega arith) (omega arith) (lit< tt)
     go false = refl
 
@@ -92,7 +93,8 @@ pub zeros-eight : (x : ℕ) → x < 2 ^ 16 → bitXor (eight (x % 256)) (x / 2 ^
 zeros-eight x l =
     let low = x % 2 ^ 8 in
     let e : eight low ≡ after crcStep 0 (bitsOf 8 x)
-    = eqb→eq (eight low) (after crcStep 0 (bitsOf 8 low)) (every-at same 256 all-same low (omega arith)) ∙ ap (after crcStep 0) (bits-ext 8 low x (low-bit 8 x)) in
+    = eqb→eq (eight low) (after crcStep 0 (bitsOf 8 low)) (every-at same 256 all-same low (omega arith))
+    ∙ ap (after crcStep 0) (bits-ext 8 low x (low-bit 8 x)) in
     ap (λ (y : ℕ). bitXor y (x / 2 ^ 8)) e ∙ sym (zeros-xor 8 0 x (lit< tt) l)
 
 -- ---- the words of a CP

@@ -70,10 +70,14 @@ ones-test f = go (ℕ-discrete (field f 0 17) 0x1ffff) (any zero 0 17) refl
     go : Dec (field f 0 17 ≡ 0x1ffff) → (b : Bool) → any zero 0 17 ≡ b → not (eqb (field f 0 17) 0x1ffff) ≡ any zero 0 17
     go (yes e) b q =
         ap not (eq-eqb (field f 0 17) 0x1ffff e)
-        ∙ sym (none-any zero 0 17 (λ k l h. ap not (ap f (sym (zero-add k)) ∙ sym (field-bit f 0 17 k (omega arith)) ∙ ap (λ (x : ℕ). bit x k) e ∙ ones-bit k (omega arith))))
+        ∙ sym (none-any zero 0 17
+        (λ k l h. ap not (ap f (sym (zero-add k)) ∙ sym (field-bit f 0 17 k (omega arith)) ∙ ap (λ (x : ℕ). bit x k) e
+        ∙ ones-bit k (omega arith))))
     go (no n) true q = ap not (ne-eqb (field f 0 17) 0x1ffff n) ∙ sym q
     go (no n) false q =
-        absurd (n (field-is f 0 17 0x1ffff (λ j l. not-false (f (0 + j)) (any-none zero 0 17 q (0 + j) (omega arith) (omega arith)) ∙ sym (ones-bit j l)) (lit< tt)))
+        absurd (n
+        (field-is f 0 17 0x1ffff (λ j l. not-false (f (0 + j)) (any-none zero 0 17 q (0 + j) (omega arith) (omega arith))
+        ∙ sym (ones-bit j l)) (lit< tt)))
 
 -- ---- the record
 
@@ -82,7 +86,8 @@ unfolding topIndex headIn
 top-head f = largest-ext (indexOf (headIn f)) (indexIn f) 6 (λ k h. getD-list (indexIn f) 0 6 k h)
 
 -- the head and the masks up to its largest index
-pub record-read : (f : ℕ → Bool) (head : Record) (g : ℕ) (mask : List ℕ) → head ≡ headIn f → g ≡ topIndex head → mask ≡ listFrom (halfIn f g) 0 12
+pub record-read : (f : ℕ → Bool) (head : Record) (g : ℕ) (mask : List ℕ) → head ≡ headIn f → g ≡ topIndex head
+    → mask ≡ listFrom (halfIn f g) 0 12
     → record { granted = head .granted; drn = head .drn; acknowledge = head .acknowledge; index = head .index; mask = mask } ≡ recordIn f
 unfolding headIn recordIn
 record-read f head g mask h e m =
@@ -98,7 +103,8 @@ read-stages s n = refl
 
 module _ (s : List ℕ) (n : ℕ) where
   -- a refusal leaves no record
-  pub read-refused : (o : Outcome) (x : Refusal) → o ≡ Refused x → outcomeAnswer o ≡ readRefusal (readCall s n) → readRecord (readCall s n) ≡ noRecord
+  pub read-refused : (o : Outcome) (x : Refusal) → o ≡ Refused x → outcomeAnswer o ≡ readRefusal (readCall s n)
+      → readRecord (readCall s n) ≡ noRecord
   unfolding readRecord
   read-refused o x q e = rw (refused-not o x (readRefusal (readCall s n)) q e)
 
@@ -107,10 +113,12 @@ module _ (s : List ℕ) (n : ℕ) where
   read-accepted e = rw (sym (ap accepted e))
 
   -- the refusal, from either stage
-  pub refused-shape : (o : Outcome) (x : Refusal) → o ≡ Refused x → outcomeAnswer o ≡ first (shapeTests s n) → outcomeAnswer o ≡ readRefusal (readCall s n)
+  pub refused-shape : (o : Outcome) (x : Refusal) → o ≡ Refused x → outcomeAnswer o ≡ first (shapeTests s n)
+      → outcomeAnswer o ≡ readRefusal (readCall s n)
   unfolding readRefusal
   refused-shape o x q e = rw (read-stages s n) (stage-hit o x (shapeTests s n) (contentTests (bitAt s) n (recordIn (bitAt s))) q e)
 
-  pub past-shape : (o : Outcome) → o ≡ Done → outcomeAnswer o ≡ first (shapeTests s n) → {a : Answer} → a ≡ first (contentTests (bitAt s) n (recordIn (bitAt s))) → a ≡ readRefusal (readCall s n)
+  pub past-shape : (o : Outcome) → o ≡ Done → outcomeAnswer o ≡ first (shapeTests s n) → {a : Answer}
+      → a ≡ first (contentTests (bitAt s) n (recordIn (bitAt s))) → a ≡ readRefusal (readCall s n)
   unfolding readRefusal shapeTests
   past-shape o q e k = rw (read-stages s n) (stage-past o (shapeTests s n) (contentTests (bitAt s) n (recordIn (bitAt s))) tt q e k)

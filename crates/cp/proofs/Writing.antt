@@ -12,7 +12,8 @@ use Rattle.standard.specs.Lists.{listFrom}
 use Rattle.standard.specs.Bits.{bit, bitAt, field, bytesOf}
 use Rattle.standard.specs.Record.{halfOf, topIndex, inMask}
 use Rattle.standard.specs.Crc.{crcBelow}
-use Rattle.standard.specs.Cp.{gamma, cpLength, cpByteCount, runPlace, Field, put, covers, bitIn, headFields, maskRun, maskFields, cpBody, crcField, cpBit, cpBytes}
+use Rattle.standard.specs.Cp.{gamma, cpLength, cpByteCount, runPlace, Field, put, covers, bitIn, headFields, maskRun, maskFields, cpBody}
+use Rattle.standard.specs.Cp.{crcField, cpBit, cpBytes}
 use Rattle.standard.specs.Refusals.{indexTooLarge, outcomeAnswer, recordTests, writeTests}
 use Rattle.standard.specs.Calls.{accepted, writeCall, writeRefusal, writeBitCount, writeBytes}
 use Rattle.standard.specs.declared.Outcome.{Outcome}
@@ -83,7 +84,8 @@ run-none s mask n = let z : n - n ≡ 0 = omega arith in rw z
 
 -- the runs from k on, and the one before them
 pub run-more : (s t u : List ℕ) (mask : List ℕ) (k n : ℕ) → 0 < k → k ≤ n → t ≡ putFields s (listFrom (runField mask) k (n - k))
-    → u ≡ putField t (runPlace ((k - 1) / 8) ((k - 1) % 8)) 16 (runOf mask ((k - 1) / 8) ((k - 1) % 8)) → u ≡ putFields s (listFrom (runField mask) (k - 1) (n - (k - 1)))
+    → u ≡ putField t (runPlace ((k - 1) / 8) ((k - 1) % 8)) 16 (runOf mask ((k - 1) / 8) ((k - 1) % 8))
+    → u ≡ putFields s (listFrom (runField mask) (k - 1) (n - (k - 1)))
 unfolding putFields listFrom
 run-more s t u mask k n p h e q =
     let a : n - (k - 1) ≡ suc (n - k) = omega arith in
@@ -104,7 +106,8 @@ covers-true x n e = go (decLe (x .at) n) (decLt n (x .at + x .width))
     go (yes a) (no b) = absurd (off (inr (omega arith)))
 
 -- a field that stands at the end of a list shows on top, where nothing else has its bits
-on-top : (x : Field) (xs : List Field) (n : ℕ) → (covers x n ≡ true → bitIn (xs ++ (x ∷ [])) n ≡ bit (x .value) (n - x .at)) → bitIn (x ∷ xs) n ≡ bitIn (xs ++ (x ∷ [])) n
+on-top : (x : Field) (xs : List Field) (n : ℕ) → (covers x n ≡ true → bitIn (xs ++ (x ∷ [])) n ≡ bit (x .value) (n - x .at))
+    → bitIn (x ∷ xs) n ≡ bitIn (xs ++ (x ∷ [])) n
 unfolding bitIn
 on-top x xs n h = go (covers x n) refl
   where
@@ -129,12 +132,15 @@ module _ (r : Record) where
       let q : 273 + gamma g + (n - (273 + gamma g)) ≡ n = omega arith in
       ap (cpBit r) (sym q) ∙ cp-crc r (n - (273 + gamma g)) (omega arith))
 
-  crc-value : (n : ℕ) → 272 + gamma g ≤ 8 * n → crcBelow (bitAt (bytesOf n (bitIn (cpBody r)))) (272 + gamma g) ≡ crcBelow (bitIn (cpBody r)) (272 + gamma g)
+  crc-value : (n : ℕ) → 272 + gamma g ≤ 8 * n → crcBelow (bitAt (bytesOf n (bitIn (cpBody r)))) (272 + gamma g)
+      ≡ crcBelow (bitIn (cpBody r)) (272 + gamma g)
   crc-value n h =
       crcBelow-ext (bitAt (bytesOf n (bitIn (cpBody r)))) (bitIn (cpBody r)) (272 + gamma g)
-      (λ k l. ap (λ (s : List ℕ). bitAt s k) (sym (append-nil (bytesOf n (bitIn (cpBody r))))) ∙ bitAt-bytes n (bitIn (cpBody r)) [] k (omega arith))
+      (λ k l. ap (λ (s : List ℕ). bitAt s k) (sym (append-nil (bytesOf n (bitIn (cpBody r)))))
+      ∙ bitAt-bytes n (bitIn (cpBody r)) [] k (omega arith))
 
-  pub crc-put : (s : List ℕ) (x : ℕ) → s ≡ bytesOf (cpByteCount g) (bitIn (cpBody r)) → x ≡ crcBelow (bitAt s) (272 + gamma g) → putField s (273 + gamma g) 16 x ≡ cpBytes r
+  pub crc-put : (s : List ℕ) (x : ℕ) → s ≡ bytesOf (cpByteCount g) (bitIn (cpBody r)) → x ≡ crcBelow (bitAt s) (272 + gamma g)
+      → putField s (273 + gamma g) 16 x ≡ cpBytes r
   unfolding cpBytes crcField
   crc-put s x e q =
       let v : x ≡ crcBelow (bitIn (cpBody r)) (272 + gamma g)
@@ -148,8 +154,11 @@ pub cp-put : (r : Record) (g x : ℕ) (s s₁ s₂ s₃ s₄ : List ℕ) → len
     → x ≡ crcBelow (bitAt s₃) (272 + gamma g) → s₄ ≡ putField s₃ (273 + gamma g) 16 x → s₄ ≡ cpBytes r
 cp-put r g x s s₁ s₂ s₃ s₄ n q e₁ e₂ e₃ c e₄ =
     let body : s₃ ≡ bytesOf (cpByteCount (topIndex r)) (bitIn (cpBody r))
-    = e₃ ∙ ap (λ (t : List ℕ). putFields t (headFields r)) (e₂ ∙ ap (λ (t : List ℕ). putFields t (maskFields r)) (e₁ ∙ ap (λ (k : ℕ). replicate k 0) n)) ∙ body-put (cpByteCount (topIndex r)) r in
-    e₄ ∙ ap (λ (k : ℕ). putField s₃ (273 + gamma k) 16 x) q ∙ crc-put r s₃ x body (c ∙ ap (λ (k : ℕ). crcBelow (bitAt s₃) (272 + gamma k)) q)
+    = e₃ ∙ ap (λ (t : List ℕ). putFields t (headFields r))
+    (e₂ ∙ ap (λ (t : List ℕ). putFields t (maskFields r)) (e₁ ∙ ap (λ (k : ℕ). replicate k 0) n))
+    ∙ body-put (cpByteCount (topIndex r)) r in
+    e₄ ∙ ap (λ (k : ℕ). putField s₃ (273 + gamma k) 16 x) q ∙ crc-put r s₃ x body
+    (c ∙ ap (λ (k : ℕ). crcBelow (bitAt s₃) (272 + gamma k)) q)
 
 -- ---- a record that is not refused
 
@@ -158,7 +167,8 @@ unfolding recordTests
 index-passed r o q e = done-none o (recordTests r) (record-numbered r) q e .0
 
 -- a call that is not refused: no index is above 5, and the bytes suffice
-pub write-passed : (r : Record) (short : Bool) (o : Outcome) → o ≡ Done → outcomeAnswer o ≡ first (writeTests r short) → (indexTooLarge r ≡ false) × (short ≡ false)
+pub write-passed : (r : Record) (short : Bool) (o : Outcome) → o ≡ Done → outcomeAnswer o ≡ first (writeTests r short)
+    → (indexTooLarge r ≡ false) × (short ≡ false)
 unfolding writeTests recordTests
 write-passed r short o q e =
     let p = none-split (recordTests r) (test 17 short ∷ []) (done-none o (writeTests r short) (write-numbered r short) q e) in
@@ -173,7 +183,8 @@ module _ (r : Record) (s : List ℕ) where
   unfolding writeBitCount writeBytes
   write-refused o x q e = let no = refused-not o x (writeRefusal (writeCall r s)) q e in (rw no, rw no)
 
-  pub write-accepted : bare 0 ≡ writeRefusal (writeCall r s) → (n k : ℕ) (t : List ℕ) → n ≡ cpLength (topIndex r) → k ≡ cpByteCount (topIndex r) → t ≡ cpBytes r
+  pub write-accepted : bare 0 ≡ writeRefusal (writeCall r s) → (n k : ℕ) (t : List ℕ) → n ≡ cpLength (topIndex r)
+      → k ≡ cpByteCount (topIndex r) → t ≡ cpBytes r
       → (n ≡ writeBitCount (writeCall r s)) × (t ++ drop k s ≡ writeBytes (writeCall r s))
   unfolding writeBitCount writeBytes cpBytes
   write-accepted e n k t a b d =

@@ -13,7 +13,8 @@ ghost use Rattle.standard.specs.First.{first};
 ghost use Rattle.standard.specs.Bits.{weight, bitAt, field, bitsOf};
 ghost use Rattle.standard.specs.Record.{topIndex, noRecord};
 ghost use Rattle.standard.specs.Crc.{crcStep, crcBelow};
-ghost use Rattle.standard.specs.Cp.{gamma, cpLength, cpByteCount, runPlace, headFields, maskFields, cpBytes, indexIn, halfIn, recordIn, crcMatches, startBitSet};
+ghost use Rattle.standard.specs.Cp.{gamma, cpLength, cpByteCount, runPlace, headFields, maskFields, cpBytes, indexIn, halfIn, recordIn};
+ghost use Rattle.standard.specs.Cp.{crcMatches, startBitSet};
 ghost use Rattle.standard.specs.Refusals.{outcomeAnswer, syncBroken, fixedBitWrong, writeTests};
 ghost use Rattle.standard.specs.Calls.{readCall, readRefusal, readRecord, writeCall, writeRefusal, writeBitCount, writeBytes};
 ghost use Rattle.bits.specs.PutField.{putField};
@@ -252,7 +253,8 @@ fn refused(outcome: Outcome) -> CpRead
 
 // The entry: reads a CP of so many bits. Refusals 1 to 10, 25 and 11, the first that applies.
 pub fn read_cp(cp: &[u8], bit_count: usize) -> CpRead
-    ensures { λ x. ⌜ (outcomeAnswer (x .outcome) ≡ readRefusal (readCall (now (cp .entry)) «bit_count»)) × (x .record ≡ readRecord (readCall (now (cp .entry)) «bit_count»)) ⌝ }
+    ensures { λ x. ⌜ (outcomeAnswer (x .outcome) ≡ readRefusal (readCall (now (cp .entry)) «bit_count»))
+        × (x .record ≡ readRecord (readCall (now (cp .entry)) «bit_count»)) ⌝ }
 {
     let shape = shape_fault(cp, bit_count);
     if let Outcome::Refused(_) = shape {
@@ -383,7 +385,8 @@ fn put_cp(cp: &mut [u8], r: Record)
 
 // The entry: writes the CP of a record, and answers its bit count. Refusals 4, 9, 10, 25, 11, 12 and 17, the first that applies.
 pub fn write_cp(r: Record, cp: &mut [u8]) -> CpWritten
-    ensures { λ x. ⌜ (outcomeAnswer (x .outcome) ≡ writeRefusal (writeCall r (now (cp .entry)))) × (x .«bit_count» ≡ writeBitCount (writeCall r (now (cp .entry)))) × (now (cp .exit) ≡ writeBytes (writeCall r (now (cp .entry)))) ⌝ }
+    ensures { λ x. ⌜ (outcomeAnswer (x .outcome) ≡ writeRefusal (writeCall r (now (cp .entry))))
+        × (x .«bit_count» ≡ writeBitCount (writeCall r (now (cp .entry)))) × (now (cp .exit) ≡ writeBytes (writeCall r (now (cp .entry)))) ⌝ }
 {
     let fault = write_fault(r, cp.len());
     if let Outcome::Refused(_) = fault {

@@ -32,7 +32,8 @@ byte-bit : (w q i : ℕ) → i < 8 → bit (w / 2 ^ (8 * q) % 256) i ≡ bit w (
 byte-bit w q i h = ap (λ (x : ℕ). bit x i) (sym (field-number w (8 * q) 8)) ∙ field-bit (bit w) (8 * q) 8 i h
 
 -- n bytes from byte p on that are those of a number w hold it
-bytes-hold : (s : List ℕ) (p n w : ℕ) → ((q : ℕ) → q < n → getD s (p + q) 0 ≡ w / 2 ^ (8 * q) % 256) → w < 2 ^ (8 * n) → field (bitAt s) (8 * p) (8 * n) ≡ w
+bytes-hold : (s : List ℕ) (p n w : ℕ) → ((q : ℕ) → q < n → getD s (p + q) 0 ≡ w / 2 ^ (8 * q) % 256) → w < 2 ^ (8 * n)
+    → field (bitAt s) (8 * p) (8 * n) ≡ w
 unfolding bitAt
 bytes-hold s p n w e h =
     field-is (bitAt s) (8 * p) (8 * n) w
@@ -49,7 +50,8 @@ unfolding stateAt stateBytes stateByte
 state-back st t h =
     ap₂ (λ (x : ℕ) (b : Bool). record { history = x; sign = b })
     (bytes-hold (stateBytes st ++ t) 0 4 (st .history)
-    (λ q l. ap (λ (x : ℕ). getD (stateBytes st ++ t) x 0) (zero-add q) ∙ listed-at (stateByte st) 5 t q (omega arith) ∙ rw (lt-ltb q 4 l) refl) h)
+    (λ q l. ap (λ (x : ℕ). getD (stateBytes st ++ t) x 0) (zero-add q) ∙ listed-at (stateByte st) 5 t q (omega arith)
+    ∙ rw (lt-ltb q 4 l) refl) h)
     (ap positive (listed-at (stateByte st) 5 t 4 (lit< tt)) ∙ positive-weight (st .sign))
 
 module _ (r : Record) (t : List ℕ) where
@@ -64,7 +66,15 @@ module _ (r : Record) (t : List ℕ) where
   unfolding recordByte
   index-byte i h =
       let e : 3 + i - 3 ≡ i = omega arith in
-      byte (3 + i) (omega arith) ∙ rw (le-ltb (3 + i) 1 (omega arith), le-ltb (3 + i) 2 (omega arith), le-ltb (3 + i) 3 (omega arith), lt-ltb (3 + i) 9 (omega arith), e) refl
+      byte (3 + i) (omega arith)
+      ∙ rw (
+        le-ltb (3 + i) 1 (omega arith),
+        le-ltb (3 + i) 2 (omega arith),
+        le-ltb (3 + i) 3 (omega arith),
+        lt-ltb (3 + i) 9
+            (omega arith),
+        e,
+      ) refl
 
   half : (h : ℕ) → h < 12 → halfOf r h < 2 ^ 64 → halfAt s h ≡ halfOf r h
   half h l b =
@@ -75,8 +85,11 @@ module _ (r : Record) (t : List ℕ) where
 pub record-back : RecordBack
 unfolding recordAt recordByte
 record-back r t six twelve words =
-    let indices : listFrom (indexAt (s r t)) 0 6 ≡ r .index = sym (listFrom-is (indexAt (s r t)) 0 6 (r .index) six (λ i h. sym (index-byte r t i h))) in
-    let halves : listFrom (halfAt (s r t)) 0 12 ≡ r .mask = sym (listFrom-is (halfAt (s r t)) 0 12 (r .mask) twelve (λ h l. sym (half r t h l (words h)))) in
+    let indices : listFrom (indexAt (s r t)) 0 6 ≡ r .index = sym
+    (listFrom-is (indexAt (s r t)) 0 6 (r .index) six (λ i h. sym (index-byte r t i h))) in
+    let halves : listFrom (halfAt (s r t)) 0 12 ≡ r .mask = sym
+    (listFrom-is (halfAt (s r t)) 0 12 (r .mask) twelve (λ h l. sym (half r t h l (words h)))) in
     let granted : positive (getD (s r t) 0 0) ≡ r .granted = ap positive (byte r t 0 (lit< tt)) ∙ positive-weight (r .granted) in
-    let acknowledge : positive (getD (s r t) 2 0) ≡ r .acknowledge = ap positive (byte r t 2 (lit< tt)) ∙ positive-weight (r .acknowledge) in
+    let acknowledge : positive (getD (s r t) 2 0) ≡ r .acknowledge = ap positive (byte r t 2 (lit< tt))
+    ∙ positive-weight (r .acknowledge) in
     rw (indices, halves, granted, byte r t 1 (lit< tt), acknowledge) refl

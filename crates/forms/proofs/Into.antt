@@ -44,7 +44,8 @@ bytes-put s p k v i = go (decLt i (length s))
 
 -- a buffer d that is filled from the front as f says: n bytes more, those of a number w
 module _ (f : ℕ → ℕ) (d : List ℕ) (i w : ℕ) where
-  number-put : (n : ℕ) (s : List ℕ) → Bytes s → i + n ≤ length d → length s ≡ length d → ((q : ℕ) → q < n → w / 2 ^ (8 * q) % 256 ≡ f (i + q))
+  number-put : (n : ℕ) (s : List ℕ) → Bytes s → i + n ≤ length d → length s ≡ length d
+      → ((q : ℕ) → q < n → w / 2 ^ (8 * q) % 256 ≡ f (i + q))
       → s ≡ listFrom f 0 i ++ drop i d → putField s (8 * i) (8 * n) w ≡ listFrom f 0 (i + n) ++ drop (i + n) d
   number-put zero s b h l same e = putField-none s (8 * i) w b ∙ e ∙ ap (λ (k : ℕ). listFrom f 0 k ++ drop k d) (sym (add-zero i))
   number-put (suc n) s b h l same e =
@@ -55,7 +56,8 @@ module _ (f : ℕ → ℕ) (d : List ℕ) (i w : ℕ) where
       ap (λ (m : ℕ). putField s (8 * i) m w) k ∙ sym (putField-step s t (putField t (8 * i + 8 * n) 8 v) (8 * i) (8 * n) 8 w refl refl)
       ∙ ap (λ (m : ℕ). putField t m 8 v) p
       ∙ sym (putField-byte t (i + n) v (bytes-put s (8 * i) (8 * n) w) (omega (arith, length-putField s (8 * i) (8 * n) w)))
-      ∙ listed-more f d t (i + n) (v % 256) (number-put n s b (omega arith) l (λ q a. same q (omega arith)) e) (omega arith) (same n (omega arith))
+      ∙ listed-more f d t (i + n) (v % 256) (number-put n s b (omega arith) l (λ q a. same q (omega arith)) e) (omega arith)
+      (same n (omega arith))
       ∙ ap (λ (m : ℕ). listFrom f 0 m ++ drop m d) (add-one (i + n) ∙ sym (add-suc i n))
 
 -- ---- the parts of a record
@@ -73,16 +75,22 @@ module _ (r : Record) where
 
   -- the head in a buffer
   pub head-put : (d : List ℕ) → 9 ≤ length d
-      → set (set (set (set (set (set (set (set (set d 0 (boolByte (r .granted))) 1 (r .drn)) 2 (boolByte (r .acknowledge))) 3 (indexOf r 0)) 4 (indexOf r 1)) 5 (indexOf r 2)) 6 (indexOf r 3)) 7 (indexOf r 4)) 8 (indexOf r 5)
+      → set (set
+      (set (set
+      (set (set (set (set (set d 0 (boolByte (r .granted))) 1 (r .drn)) 2 (boolByte (r .acknowledge))) 3 (indexOf r 0)) 4 (indexOf r 1))
+      5 (indexOf r 2)) 6 (indexOf r 3)) 7 (indexOf r 4)) 8 (indexOf r 5)
       ≡ listFrom (recordByte r) 0 9 ++ drop 9 d
   unfolding recordByte
   head-put d h =
       let more = listed-more (recordByte r) d in
-      more _ 8 _ (more _ 7 _ (more _ 6 _ (more _ 5 _ (more _ 4 _ (more _ 3 _ (more _ 2 _ (more _ 1 _ (more d 0 _ (listed-none (recordByte r) d)
-      (omega arith) (byte-weight (r .granted))) (omega arith) refl) (omega arith) (byte-weight (r .acknowledge))) (omega arith) refl) (omega arith) refl) (omega arith) refl) (omega arith) refl) (omega arith) refl) (omega arith) refl
+      more _ 8 _
+      (more _ 7 _ (more _ 6 _ (more _ 5 _ (more _ 4 _ (more _ 3 _ (more _ 2 _ (more _ 1 _ (more d 0 _ (listed-none (recordByte r) d)
+      (omega arith) (byte-weight (r .granted))) (omega arith) refl) (omega arith) (byte-weight (r .acknowledge))) (omega arith) refl)
+      (omega arith) refl) (omega arith) refl) (omega arith) refl) (omega arith) refl) (omega arith) refl
 
   -- a half more
-  pub half-put : (d s : List ℕ) (h : ℕ) → h < 12 → 105 ≤ length s → length s ≡ length d → Bytes s → s ≡ listFrom (recordByte r) 0 (9 + 8 * h) ++ drop (9 + 8 * h) d
+  pub half-put : (d s : List ℕ) (h : ℕ) → h < 12 → 105 ≤ length s → length s ≡ length d → Bytes s
+      → s ≡ listFrom (recordByte r) 0 (9 + 8 * h) ++ drop (9 + 8 * h) d
       → putField s (8 * (9 + 8 * h)) 64 (halfOf r h) ≡ listFrom (recordByte r) 0 (9 + 8 * (h + 1)) ++ drop (9 + 8 * (h + 1)) d
   half-put d s h l n m b e =
       let k : 9 + 8 * h + 8 ≡ 9 + 8 * (h + 1) = omega arith in

@@ -1,4 +1,5 @@
--- Bytes there and back: what was put into bytes is what is read from them, whatever stands after it. The premises are what the types say: u32, [u8; 6] and [u64; 12]. Assumes nothing.
+-- Bytes there and back: what was put into bytes is what is read from them, whatever stands after it. The premises are what the types say:
+-- u32, [u8; 6] and [u64; 12]. Assumes nothing.
 use mathlib.Core.Path.{_≡_}
 use Prim.Native.Nat.{ℕ, _^_, _<_}
 use mathlib.Core.List.{List, _++_}

@@ -1,3 +1,4 @@
+pub mod Coded
 pub mod RecordBytes
 pub mod StateBytes
 pub mod Back

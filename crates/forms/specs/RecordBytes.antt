@@ -1,4 +1,5 @@
--- A record in 105 bytes: granted, drn, acknowledge, the six indices, then the twelve mask halves, eight bytes each, low byte first. Assumes nothing.
+-- A record in 105 bytes: granted, drn, acknowledge, the six indices, then the twelve mask halves, eight bytes each, low byte first. Assumes
+-- nothing.
 use Prim.Native.Nat.{ℕ, _+_, _*_, _-_, _/_, _%_, _^_}
 use mathlib.Core.Bool.{cond}
 use mathlib.Core.List.{List}

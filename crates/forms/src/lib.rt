@@ -1,14 +1,54 @@
-// A record and a line state in bytes, for interfaces that pass bytes alone.
+// What crosses an interface: an outcome in one number, a record and a line state in bytes.
 use standard::LineState;
+use standard::Outcome;
 use standard::Record;
+use standard::Refusal;
 ghost use mathlib.Core.Path.{_≡_};
 ghost use Prim.Native.Nat.{_<_, _≤_};
 ghost use mathlib.Core.List.{_++_};
 ghost use lib.ListN.{length, drop};
 ghost use Rattle.standard.specs.Lists.{listFrom};
 ghost use Rattle.standard.specs.Calls.{over};
+ghost use Rattle.standard.specs.Refusals.{refusalAnswer, outcomeAnswer};
+ghost use Rattle.forms.specs.Coded.{coded};
 ghost use Rattle.forms.specs.RecordBytes.{recordByte, recordBytes, indexAt, halfAt, recordAt};
 ghost use Rattle.forms.specs.StateBytes.{stateByte, stateBytes, stateAt};
+
+// A refusal in one number.
+fn code_of_refusal(x: Refusal) -> u32
+    ensures { λ n. ⌜ n ≡ coded (refusalAnswer x) ⌝ }
+{
+    match x {
+        Refusal::CountExceedsBytes => 1,
+        Refusal::CountTooSmall => 2,
+        Refusal::SyncBroken => 3,
+        Refusal::IndexTooLarge => 4,
+        Refusal::LengthWrong => 5,
+        Refusal::StartBitSet => 6,
+        Refusal::CrcMismatch => 7,
+        Refusal::FixedBitWrong => 8,
+        Refusal::DrnTooLarge => 9,
+        Refusal::GrantedBelowFullRate => 10,
+        Refusal::ProductTooSmall => 11,
+        Refusal::MaskAboveIndices => 12,
+        Refusal::FramesAtCleardown => 13,
+        Refusal::HistoryTooLarge => 14,
+        Refusal::TooManyFrames => 15,
+        Refusal::InputTooShort => 16,
+        Refusal::OutputTooShort => 17,
+        Refusal::IntervalEmpty(i) => 25 + 0x100_0000 * (i as u32),
+    }
+}
+
+// An outcome in one number.
+pub fn code_of(o: Outcome) -> u32
+    ensures { λ n. ⌜ n ≡ coded (outcomeAnswer o) ⌝ }
+{
+    match o {
+        Outcome::Done => 0,
+        Outcome::Refused(x) => code_of_refusal(x),
+    }
+}
 
 // The six indices, from byte 3 on.
 fn indices_at(bytes: &[u8]) -> [u8; 6]

@@ -19,7 +19,8 @@ use Rattle.standard.specs.Scrambler.{pushAll, descramble}
 use Rattle.standard.specs.Constellation.{member, label, sizes}
 use Rattle.standard.specs.Modulus.{number}
 use Rattle.standard.specs.Signs.{signBits}
-use Rattle.standard.specs.Frame.{outsideTest, outsideTests, signAt, ucodeAt, receivedNumber, markTests, mark, good, heardBits, receiveFrame, receiveNext}
+use Rattle.standard.specs.Frame.{outsideTest, outsideTests, signAt, ucodeAt, receivedNumber, markTests, mark, good, heardBits, receiveFrame}
+use Rattle.standard.specs.Frame.{receiveNext}
 use Rattle.standard.specs.declared.Law.{Law}
 use Rattle.standard.specs.declared.LineState.{LineState}
 use Rattle.standard.specs.declared.Record.{Record}
@@ -32,7 +33,7 @@ use Rattle.standard.proofs.Frame.{length-heardBits}
 use Rattle.standard.proofs.Words.{one-shifted, above-six, number-append, bits-number, zero-number}
 use Rattle.mapping.specs.declared.Mapping.{Mapping}
 use Rattle.mapping.specs.Tables.{mappingOf, labelOrNone, labelTables}
-use Rattle.mapping.proofs.Tables.{width-le, label-in, none-outside, label-inside}
+use Rattle.mapping.proofs.Tables.{number-le, width-le, label-in, none-outside, label-inside}
 use Rattle.frame.specs.declared.Carried.{Carried}
 use Rattle.coding.specs.Past.{turned}
 use Rattle.frame.specs.Parts.{stateOf, labelIn, noneTest}
@@ -83,33 +84,38 @@ module _ (r : Record) (l : Law) (os : List ℕ) where
     found-at : (i : ℕ) → i < 6 → getD found i 0 ≡ labelOrNone (member r i) (ucodeAt l os i)
     unfolding labelIn
     found-at i h =
-        ap (λ (x : List ℕ). getD x i 0) ef ∙ getD-list (labelIn l ls os) 0 6 i h ∙ label-in r ls i h el (ucodeAt l os i) (ucode-lt l (getD os i 0))
+        ap (λ (x : List ℕ). getD x i 0) ef ∙ getD-list (labelIn l ls os) 0 6 i h
+        ∙ label-in r ls i h el (ucodeAt l os i) (ucode-lt l (getD os i 0))
 
     tests-are : listFrom (noneTest found) 0 6 ≡ outsideTests r l os
     unfolding noneTest outsideTests outsideTest
     tests-are =
         listFrom-ext (noneTest found) (outsideTest r l os) 6
-        (λ i h. ap (test (i + 1)) (ap (λ (x : ℕ). eqb x 255) (found-at i h) ∙ none-outside (member r i) (ucodeAt l os i) (ucode-lt l (getD os i 0))))
+        (λ i h. ap (test (i + 1))
+        (ap (λ (x : ℕ). eqb x 255) (found-at i h) ∙ none-outside (member r i) (ucodeAt l os i) (ucode-lt l (getD os i 0))))
 
     pub outside-is : (x : ℕ) → x ≡ first (listFrom (noneTest found) 0 6) .number → x ≡ first (outsideTests r l os) .number
     outside-is x e = e ∙ ap (λ (ts : List Test). first ts .number) tests-are
 
     -- where none is outside its mask
-    pub number-is : first (outsideTests r l os) .number ≡ 0 → (m : Mapping) → m ≡ mappingOf r → number (m .sizes) found ≡ receivedNumber r l os
+    pub number-is : first (outsideTests r l os) .number ≡ 0 → (m : Mapping) → m ≡ mappingOf r
+        → number (m .sizes) found ≡ receivedNumber r l os
     unfolding receivedNumber outsideTests outsideTest listFrom
     number-is e m em =
-        ap₂ (λ (x : Mapping) (cs : List ℕ). number (x .sizes) cs) em (listFrom-is (λ i. label r i (ucodeAt l os i)) 0 6 found (ap length ef ∙ length-listFrom (labelIn l ls os) 0 6) inside)
+        ap₂ (λ (x : Mapping) (cs : List ℕ). number (x .sizes) cs) em
+        (listFrom-is (λ i. label r i (ucodeAt l os i)) 0 6 found (ap length ef ∙ length-listFrom (labelIn l ls os) 0 6) inside)
       where
         inside : (i : ℕ) → i < 6 → getD found i 0 ≡ label r i (ucodeAt l os i)
         inside i h =
-            let none = none-at (outsideTests r l os) (none-first (outsideTests r l os) tt e) i (omega (arith, length-listFrom (outsideTest r l os) 0 6)) (outsideTest r l os 0) in
+            let none = none-at (outsideTests r l os) (none-first (outsideTests r l os) tt e) i
+            (omega (arith, length-listFrom (outsideTest r l os) 0 6)) (outsideTest r l os 0) in
             found-at i h
             ∙ label-inside (member r i) (ucodeAt l os i) (ucode-lt l (getD os i 0))
             (not-false _ (sym (ap (λ (t : Test). t .applies) (getD-list (outsideTest r l os) (outsideTest r l os 0) 6 i h)) ∙ none))
 
   -- 2 ^ K, as code shifts it
   pub limit-is : (m : Mapping) → m ≡ mappingOf r → r .drn ≤ 28 → 1 * 2 ^ (m .k) % 2 ^ 64 ≡ 2 ^ K r
-  limit-is m em rate = one-shifted (m .k) (omega (arith, width-le r m em rate)) ∙ ap (λ (x : Mapping). 2 ^ (x .k)) em
+  limit-is m em rate = one-shifted (m .k) (omega (arith, number-le r m em rate)) ∙ ap (λ (x : Mapping). 2 ^ (x .k)) em
 
   -- ---- the mark
 
@@ -146,12 +152,13 @@ module _ (r : Record) (l : Law) (os : List ℕ) where
       bad : good r l os ≡ false
       bad = ne-eqb (mark r l os) 0 (λ (e : mark r l os ≡ 0). omega arith)
 
-      pub marked-next : (m : Mapping) → m ≡ mappingOf r → (y : Carried) → y .past ≡ turned (pushAll (st .history) (replicate (m .k + 6) false)) → y .sign ≡ signAt os 5
+      pub marked-next : (m : Mapping) → m ≡ mappingOf r → (y : Carried) → y .past ≡ turned (pushAll (st .history) (replicate (m .d) false))
+          → y .sign ≡ signAt os 5
           → stateOf y ≡ receiveNext r l st os
       unfolding receiveNext heardBits
       marked-next m em y ep es =
-          let pushed = from-past (st .history) (y .past) (replicate (m .k + 6) false) (turned-lt (x .past)) ep in
-          let zeros = ap (λ (z : Mapping). pushAll (st .history) (replicate (z .k + 6) false)) em in
+          let pushed = from-past (st .history) (y .past) (replicate (m .d) false) (turned-lt (x .past)) ep in
+          let zeros = ap (λ (z : Mapping). pushAll (st .history) (replicate (z .d) false)) em in
           rw bad (ap₂ (λ (h : ℕ) (s : Bool). record { history = h; sign = s }) (pushed ∙ zeros) es)
 
       pub marked-number : 0 ≡ numberOf (receiveFrame r l st os)
@@ -176,7 +183,7 @@ module _ (r : Record) (l : Law) (os : List ℕ) where
 
       -- the bits on the line, as code joins them: the sign bits s below the number n
       pub heard-bits : (m : Mapping) → m ≡ mappingOf r → (s n : ℕ) → s ≡ numberOf sixBits → n ≡ receivedNumber r l os → r .drn ≤ 28
-          → bitsOf (m .k + 6) (bitOr s (n * 64 % 2 ^ 64)) ≡ heardBits r l (st .sign) os
+          → bitsOf (m .d) (bitOr s (n * 64 % 2 ^ 64)) ≡ heardBits r l (st .sign) os
       heard-bits m em s n es en rate =
           let low : s < 64 = rw es (rw six-long at (numberOf-lt sixBits)) in
           let high : n < 2 ^ 42 = rw en (lt-of-lt-of-le fits (pow-mono {i = K r} {j = 42} (omega arith))) in
@@ -184,13 +191,16 @@ module _ (r : Record) (l : Law) (os : List ℕ) where
           above-six s n low high ∙ ap₂ (λ (x y : ℕ). x + 64 * y) es (en ∙ sym (bits-number (K r) (receivedNumber r l os) fits))
           ∙ sym (ap numberOf heard-is ∙ number-append sixBits (bitsOf (K r) (receivedNumber r l os))
           ∙ ap (λ (k : ℕ). numberOf sixBits + 2 ^ k * numberOf (bitsOf (K r) (receivedNumber r l os))) six-long) in
-          ap₂ (λ (y : Mapping) (x : ℕ). bitsOf (y .k + 6) x) em q ∙ bits-back (D r) (heardBits r l (st .sign) os) (length-heardBits r l (st .sign) os)
+          ap₂ (λ (y : Mapping) (x : ℕ). bitsOf (y .d) x) em q ∙ bits-back (D r) (heardBits r l (st .sign) os)
+          (length-heardBits r l (st .sign) os)
 
       pub heard-data : descramble (st .history) (heardBits r l (st .sign) os) ≡ receiveFrame r l st os
       unfolding receiveFrame
       heard-data = rw fine
 
-      pub heard-next : (y : Carried) → y .past ≡ turned (pushAll (st .history) (heardBits r l (st .sign) os)) → y .sign ≡ signAt os 5 → stateOf y ≡ receiveNext r l st os
+      pub heard-next : (y : Carried) → y .past ≡ turned (pushAll (st .history) (heardBits r l (st .sign) os)) → y .sign ≡ signAt os 5
+          → stateOf y ≡ receiveNext r l st os
       unfolding receiveNext
       heard-next y ep es =
-          ap₂ (λ (h : ℕ) (s : Bool). record { history = h; sign = s }) (from-past (st .history) (y .past) (heardBits r l (st .sign) os) (turned-lt (x .past)) ep) es
+          ap₂ (λ (h : ℕ) (s : Bool). record { history = h; sign = s })
+          (from-past (st .history) (y .past) (heardBits r l (st .sign) os) (turned-lt (x .past)) ep) es

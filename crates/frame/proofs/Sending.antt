@@ -39,7 +39,7 @@ number-lt k ss e = let six : length (drop 6 ss) ≡ k = omega (arith, length-dro
 
 -- a frame of the D lowest bits of a word, sent from the carried state x; w is the number of its bits on the line
 module _ (r : Record) (l : Law) (m : Mapping) (vs : List ℕ) (ps : List (List ℕ)) (x : Carried) (s : Sendable r m vs ps x) (word w q : ℕ)
-    (sent : Scrambled (x .past) word (m .k + 6) w q) where
+    (sent : Scrambled (x .past) word (m .d) w q) where
   abbrev st : LineState
   st = stateOf x
 
@@ -49,8 +49,8 @@ module _ (r : Record) (l : Law) (m : Mapping) (vs : List ℕ) (ps : List (List �
   abbrev ss : List Bool
   ss = scramble (st .history) ds
 
-  same-bits : scramble (st .history) (bitsOf (m .k + 6) word) ≡ ss
-  same-bits = ap (λ (y : Mapping). scramble (st .history) (bitsOf (y .k + 6) word)) (s .mapped)
+  same-bits : scramble (st .history) (bitsOf (m .d) word) ≡ ss
+  same-bits = ap (λ (y : Mapping). scramble (st .history) (bitsOf (y .d) word)) (s .mapped)
 
   line : w ≡ numberOf ss
   line = sent .out ∙ ap numberOf same-bits
@@ -81,7 +81,8 @@ module _ (r : Record) (l : Law) (m : Mapping) (vs : List ℕ) (ps : List (List �
       unfolding frameSigns
       sign-is i h =
           let six : bitsOf 6 w ≡ take 6 ss = ap (bitsOf 6) line ∙ number-take 6 ss (omega (arith, long)) in
-          ap (λ (x : ℕ). bit x i) en ∙ number-bit (signsOf (st .sign) (bitsOf 6 w)) i (omega (arith, length-signsOf (st .sign) (bitsOf 6 w), length-bitsOf 6 w))
+          ap (λ (x : ℕ). bit x i) en ∙ number-bit (signsOf (st .sign) (bitsOf 6 w)) i
+          (omega (arith, length-signsOf (st .sign) (bitsOf 6 w), length-bitsOf 6 w))
           ∙ ap (λ (bs : List Bool). nth (signsOf (st .sign) bs) i) six
 
       ucode-is : (i : ℕ) → i < 6 → getD (getD ps i []) (getD cs i 0) 0 % 128 ≡ point r i (getD (frameLabels r ss) i 0)
@@ -89,7 +90,8 @@ module _ (r : Record) (l : Law) (m : Mapping) (vs : List ℕ) (ps : List (List �
       ucode-is i h =
           ap (λ (u : ℕ). u % 128) (point-in r ps i h (s .points) (getD cs i 0) (sent-small i h))
           ∙ mod-eq-of-lt (point-lt (member r i) 128 (getD cs i 0) (omega arith))
-          ∙ ap (λ (xs : List ℕ). point r i (getD xs i 0)) (labels-from ∙ ap (labels (sizes r)) (ap (λ (x : ℕ). x / 64) line ∙ number-drop 6 ss))
+          ∙ ap (λ (xs : List ℕ). point r i (getD xs i 0))
+          (labels-from ∙ ap (labels (sizes r)) (ap (λ (x : ℕ). x / 64) line ∙ number-drop 6 ss))
 
       pub sent-octets : (os : List ℕ) → os ≡ listFrom (octetIn l ps cs n) 0 6 → os ≡ sendFrame r l st ds
       unfolding octetIn sendFrame lineBits frameOctets
@@ -101,5 +103,6 @@ module _ (r : Record) (l : Law) (m : Mapping) (vs : List ℕ) (ps : List (List �
       pub sent-state : (t : Bool) → t ≡ bit n 5 → stateOf (record { past = q; sign = t }) ≡ sendNext st ds
       unfolding sendNext lineBits
       sent-state t et =
-          let pushed = from-past (st .history) q (scramble (st .history) (bitsOf (m .k + 6) word)) (turned-lt (x .past)) (sent .left) in
-          ap₂ (λ (y : ℕ) (z : Bool). record { history = y; sign = z }) (pushed ∙ ap (pushAll (st .history)) same-bits) (et ∙ sign-is 5 (omega arith))
+          let pushed = from-past (st .history) q (scramble (st .history) (bitsOf (m .d) word)) (turned-lt (x .past)) (sent .left) in
+          ap₂ (λ (y : ℕ) (z : Bool). record { history = y; sign = z }) (pushed ∙ ap (pushAll (st .history)) same-bits)
+          (et ∙ sign-is 5 (omega arith))

@@ -25,7 +25,8 @@ use Rattle.coding.specs.Reciprocals.{reciprocalOf}
 abbrev pub stateOf : Carried → LineState
 stateOf x = record { history = turned (x .past); sign = x .sign }
 
--- The functions of a frame have no record. Their contracts ask that K, sizes and table are drawn up of some record, and speak of each such record.
+-- The functions of a frame have no record. Their contracts ask that K, D, sizes and table are drawn up of some record, and speak of each
+-- such record.
 
 -- a frame of the record r can be sent from the carried state x: m, its sizes' reciprocals vs and ps are drawn up of r
 pub record Sendable (r : Record) (m : Mapping) (vs : List ℕ) (ps : List (List ℕ)) (x : Carried) : Type 0 where

@@ -1,5 +1,5 @@
 // One data frame each way: D = K + 6 data bits, held as a number with bit 0 first in time, and six octets.
-// K, the sizes and the tables are those that a call draws up of its record.
+// K, D, the sizes and the tables are those that a call draws up of its record.
 use bits::bit_of;
 use bits::wide;
 use coding::modulus::labels_of;
@@ -90,10 +90,11 @@ pub fn send_frame(
 ) -> Carried
     requires { ⌜ ((r : Record) × Sendable r mapping inverses (now points) line) × (length (now octets) ≡ 6) ⌝ }
     ensures { λ x. ⌜ ((r : Record) → Sendable r mapping inverses (now (points .entry)) line
-        → (now (octets .exit) ≡ sendFrame r law (stateOf line) (bitsOf (D r) bits)) × (stateOf x ≡ sendNext (stateOf line) (bitsOf (D r) bits)) × (x .past < 2 ^ 23)) ⌝ }
+        → (now (octets .exit) ≡ sendFrame r law (stateOf line) (bitsOf (D r) bits))
+        × (stateOf x ≡ sendNext (stateOf line) (bitsOf (D r) bits)) × (x .past < 2 ^ 23)) ⌝ }
 {
     let sizes = mapping.sizes;
-    let sent = scramble_past(line.past, bits, mapping.k + 6);
+    let sent = scramble_past(line.past, bits, mapping.d);
     let signs = signs_of(line.sign, sent.bits);
     let labels = labels_of(sizes, inverses, sent.bits >> 6);
     write_octets(law, points, labels, signs, octets);
@@ -174,11 +175,12 @@ pub fn receive_frame(
 ) -> FrameReceived
     requires { ⌜ ((r : Record) × Receivable r mapping (now labels) line) × (length (now octets) ≡ 6) ⌝ }
     ensures { λ x. ⌜ ((r : Record) → Receivable r mapping (now (labels .entry)) line
-        → (x .mark ≡ markOf r law (now (octets .entry))) × (stateOf (x .line) ≡ receiveNext r law (stateOf line) (now (octets .entry))) × (x .line .past < 2 ^ 23)
+        → (x .mark ≡ markOf r law (now (octets .entry))) × (stateOf (x .line) ≡ receiveNext r law (stateOf line) (now (octets .entry)))
+        × (x .line .past < 2 ^ 23)
         × (x .bits ≡ numberOf (receiveFrame r law (stateOf line) (now (octets .entry))))) ⌝ }
 {
     let k = mapping.k;
-    let width = k + 6;
+    let width = mapping.d;
     let sizes = mapping.sizes;
     let signs = signs_in(octets);
     let sign = bit_of(signs, 5);

@@ -94,7 +94,8 @@ module _ (m left : ℕ → Bool) (ps ls : List ℕ) (c : ℕ) (p : Drawing m lef
         point : (j : ℕ) → c - 1 ≤ j → j < 128 → Dec (j ≡ c - 1) → getD (set ps (c - 1) u) j 0 ≡ pointOf m 128 j
         point j a b (yes e) =
             let l : labelOf m 128 u ≡ j = omega (arith, label-is) in
-            rw e (getD-set-same ps (c - 1) u 0 (omega (arith, p .longPoints))) ∙ sym (ap (pointOf m 128) (sym l) ∙ point-label m 128 u h inside)
+            rw e (getD-set-same ps (c - 1) u 0 (omega (arith, p .longPoints)))
+            ∙ sym (ap (pointOf m 128) (sym l) ∙ point-label m 128 u h inside)
         point j a b (no e) = getD-set-other ps (c - 1) j u 0 e ∙ p .points j (omega arith) b
 
         named : (w : ℕ) → w < suc u → (w ≡ u) ⊎ (w < u) → Dec (w < p .v) → getD (set ls u (c - 1)) w 0 ≡ labelOrNone m w
@@ -195,12 +196,14 @@ half-done m f ps ls c h p =
 
 module _ (m : Mask) where
   lower-half : (u : ℕ) → Dec (u < 64) → has m u ≡ leftIn (m .low) 0 (has m) u
-  lower-half u (yes h) = let e : u - 0 ≡ u = omega arith in has-low m u h ∙ sym (left-within (m .low) 0 (has m) u (omega arith) h ∙ ap (bit (m .low)) e)
+  lower-half u (yes h) =
+      let e : u - 0 ≡ u = omega arith in has-low m u h ∙ sym (left-within (m .low) 0 (has m) u (omega arith) h ∙ ap (bit (m .low)) e)
   lower-half u (no h) = sym (left-above (m .low) 0 (has m) u (omega arith))
 
   upper-half : (u : ℕ) → Dec (u < 64) → Dec (u < 128) → leftIn 0 0 (has m) u ≡ leftIn (m .high) 64 (has m) u
   upper-half u (yes h) l = none-left 0 (has m) u h ∙ sym (left-below (m .high) 64 (has m) u h)
-  upper-half u (no h) (yes l) = left-above 0 0 (has m) u (omega arith) ∙ has-above m u (omega arith) l ∙ sym (left-within (m .high) 64 (has m) u (omega arith) l)
+  upper-half u (no h) (yes l) =
+      left-above 0 0 (has m) u (omega arith) ∙ has-above m u (omega arith) l ∙ sym (left-within (m .high) 64 (has m) u (omega arith) l)
   upper-half u (no h) (no l) = left-above 0 0 (has m) u (omega arith) ∙ sym (left-above (m .high) 64 (has m) u (omega arith))
 
   -- before the lower half is drawn
@@ -214,5 +217,6 @@ module _ (m : Mask) where
     drawing-high c e p = drawing-ext (has m) (leftIn 0 0 (has m)) ps ls c (rw e p) _ (λ u. upper-half u (decLt u 64) (decLt u 128))
 
     -- after the upper half
-    pub drawing-done : Drawing (has m) (leftIn 0 64 (has m)) ps ls (labelOf (has m) 128 127) → (ps ≡ pointTable (has m)) × (ls ≡ labelTable (has m))
+    pub drawing-done : Drawing (has m) (leftIn 0 64 (has m)) ps ls (labelOf (has m) 128 127) → (ps ≡ pointTable (has m))
+        × (ls ≡ labelTable (has m))
     drawing-done p = drawing-all (has m) _ ps ls _ p (omega (arith, label-above (has m) 128 127 (omega arith)))

@@ -9,7 +9,7 @@ use native.Mathlib.Omega.{arith}
 use borrow.Author.Tests.{ne-eqb}
 use lib.Dec.{eqb}
 use lib.ListN.{length, getD, set, length-set, List·getD-eq-default}
-use Rattle.standard.specs.Record.{indexOf, inMask}
+use Rattle.standard.specs.Record.{indexOf, inMask, K, D}
 use Rattle.standard.specs.Constellation.{labelOf, pointOf, member, point, sizes}
 use Rattle.standard.specs.declared.Record.{Record}
 use Rattle.standard.proofs.Lists.{listFrom-is, listFrom-ext, getD-list}
@@ -40,9 +40,11 @@ module _ (r : Record) (i : ℕ) where
 
 module _ (r : Record) (ps ls : List (List ℕ)) where
   pub before-none : length ps ≡ 6 → length ls ≡ 6 → DrawnBefore r ps ls 0
-  before-none a b = record { longPoints = a; longLabels = b; points = λ j h. absurd (not-suc-le-zero h); labels = λ j h. absurd (not-suc-le-zero h) }
+  before-none a b =
+      record { longPoints = a; longLabels = b; points = λ j h. absurd (not-suc-le-zero h); labels = λ j h. absurd (not-suc-le-zero h) }
 
-  pub before-more : (i : ℕ) → i < 6 → DrawnBefore r ps ls i → DrawnBefore r (set ps i (pointTable (member r i))) (set ls i (labelTable (member r i))) (i + 1)
+  pub before-more : (i : ℕ) → i < 6 → DrawnBefore r ps ls i → DrawnBefore r (set ps i (pointTable (member r i)))
+      (set ls i (labelTable (member r i))) (i + 1)
   before-more i h p =
       record {
         longPoints = length-set ps i _ ∙ p .longPoints;
@@ -64,22 +66,31 @@ module _ (r : Record) (ts : List (List ℕ)) (i : ℕ) (h : i < 6) where
   pub point-in : ts ≡ pointTables r → (c : ℕ) → c < 128 → getD (getD ts i []) c 0 ≡ point r i c
   unfolding pointTables pointTable
   point-in e c l =
-      ap (λ (x : List (List ℕ)). getD (getD x i []) c 0) e ∙ ap (λ (t : List ℕ). getD t c 0) (getD-list (λ j. pointTable (member r j)) [] 6 i h)
+      ap (λ (x : List (List ℕ)). getD (getD x i []) c 0) e ∙ ap (λ (t : List ℕ). getD t c 0)
+      (getD-list (λ j. pointTable (member r j)) [] 6 i h)
       ∙ getD-list (pointOf (member r i) 128) 0 128 c l
 
   pub label-in : ts ≡ labelTables r → (u : ℕ) → u < 128 → getD (getD ts i []) u 0 ≡ labelOrNone (member r i) u
   unfolding labelTables labelTable
   label-in e u l =
-      ap (λ (x : List (List ℕ)). getD (getD x i []) u 0) e ∙ ap (λ (t : List ℕ). getD t u 0) (getD-list (λ j. labelTable (member r j)) [] 6 i h)
+      ap (λ (x : List (List ℕ)). getD (getD x i []) u 0) e ∙ ap (λ (t : List ℕ). getD t u 0)
+      (getD-list (λ j. labelTable (member r j)) [] 6 i h)
       ∙ getD-list (labelOrNone (member r i)) 0 128 u l
 
--- no frame has more than 48 bits, and no mask more than 128 Ucodes
-module _ (r : Record) (m : Mapping) (e : m ≡ mappingOf r) where
-  pub width-le : r .drn ≤ 28 → m .k + 6 ≤ 48
-  width-le h = omega (arith, ap (λ (x : Mapping). x .k) e)
+-- K, D and the sizes, one by one
+pub mapped : (r : Record) (k d : ℕ) (ss : List ℕ) → k ≡ K r → d ≡ D r → ss ≡ sizes r → record { k = k; d = d; sizes = ss } ≡ mappingOf r
+mapped r k d ss ek ed es = rw (ek, ed, es) refl
 
-  pub width-ge : 20 ≤ m .k + 6
-  width-ge = omega (arith, ap (λ (x : Mapping). x .k) e)
+-- no number has more than 42 bits, no frame more than 48, and no mask more than 128 Ucodes
+module _ (r : Record) (m : Mapping) (e : m ≡ mappingOf r) where
+  pub number-le : r .drn ≤ 28 → m .k ≤ 42
+  number-le h = omega (arith, ap (λ (x : Mapping). x .k) e)
+
+  pub width-le : r .drn ≤ 28 → m .d ≤ 48
+  width-le h = omega (arith, ap (λ (x : Mapping). x .d) e)
+
+  pub width-ge : 20 ≤ m .d
+  width-ge = omega (arith, ap (λ (x : Mapping). x .d) e)
 
   pub size-le : (i : ℕ) → getD (m .sizes) i 0 ≤ 128
   size-le i = rw e (go (decLt i 6))

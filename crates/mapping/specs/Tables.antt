@@ -1,11 +1,11 @@
--- A.6: the tables that a call draws up once, and K with the sizes. A mask is a function of the Ucode. Assumes nothing.
+-- A.6: the tables that a call draws up once, and K and D with the sizes. A mask is a function of the Ucode. Assumes nothing.
 use mathlib.Core.Path.{_≡_}
 use Prim.Native.Nat.{ℕ, _≤_, _<_}
 use mathlib.Core.Bool.{Bool, cond}
 use mathlib.Core.List.{List, []}
 use lib.ListN.{length, getD}
 use Rattle.standard.specs.Lists.{listFrom}
-use Rattle.standard.specs.Record.{indexOf, K}
+use Rattle.standard.specs.Record.{indexOf, K, D}
 use Rattle.standard.specs.Constellation.{labelOf, pointOf, member, sizes}
 use Rattle.standard.specs.declared.Record.{Record}
 use Rattle.mapping.specs.declared.Mapping.{Mapping}
@@ -29,9 +29,9 @@ pointTables r = listFrom (λ i. pointTable (member r i)) 0 6
 unfoldable pub labelTables : Record → List (List ℕ)
 labelTables r = listFrom (λ i. labelTable (member r i)) 0 6
 
--- K and M0 to M5
+-- K, D and M0 to M5
 abbrev pub mappingOf : Record → Mapping
-mappingOf r = record { k = K r; sizes = sizes r }
+mappingOf r = record { k = K r; d = D r; sizes = sizes r }
 
 -- the tables of the intervals before i are drawn up
 pub record DrawnBefore (r : Record) (ps ls : List (List ℕ)) (i : ℕ) : Type 0 where

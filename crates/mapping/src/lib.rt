@@ -1,6 +1,8 @@
-// What the frames of a call need of its record, drawn up once: K and the sizes, and for each interval the Ucodes of its mask
+// What the frames of a call need of its record, drawn up once: K, D and the sizes, and for each interval the Ucodes of its mask
 // in label order and the label of each Ucode or none.
 use constellation::Mask;
+use constellation::d_of;
+use constellation::k_of;
 use constellation::label_of;
 use constellation::mask_of;
 use constellation::size_of;
@@ -16,9 +18,10 @@ ghost use Rattle.constellation.specs.Mask.{has, Indexed};
 ghost use Rattle.mapping.specs.Tables.{pointTable, labelTable, pointTables, labelTables, mappingOf, DrawnBefore, FirstNaming};
 ghost use Rattle.mapping.specs.Drawing.{leftIn, Drawing};
 
-// K and M0 to M5.
+// K, D and M0 to M5.
 pub struct Mapping {
     pub k: usize,
+    pub d: usize,
     pub sizes: [u64; 6],
 }
 
@@ -83,7 +86,7 @@ fn draw_interval(r: Record, i: usize, points: &mut [[u8; 128]; 6], labels: &mut 
     draw(mask_of(r, i), &mut points[i], &mut labels[i]);
 }
 
-// Draws up the tables of all six intervals, and answers K and the sizes.
+// Draws up the tables of all six intervals, and answers K, D and the sizes.
 pub fn draw_up(r: Record, points: &mut [[u8; 128]; 6], labels: &mut [[u8; 128]; 6]) -> Mapping
     requires { ⌜ Indexed r × (length (now points) ≡ 6) × (length (now labels) ≡ 6) ⌝ }
     ensures { λ m. ⌜ (m ≡ mappingOf r) × (now (points .exit) ≡ pointTables r) × (now (labels .exit) ≡ labelTables r) ⌝ }
@@ -95,7 +98,8 @@ pub fn draw_up(r: Record, points: &mut [[u8; 128]; 6], labels: &mut [[u8; 128]; 
     }
     let sizes = sizes_of(r);
     Mapping {
-        k: r.drn as usize + 14,
+        k: k_of(r),
+        d: d_of(r),
         sizes: sizes,
     }
 }

@@ -18,7 +18,8 @@ module _ (l : Law) (os : List ℕ) where
   sampleAt k = sampleOf l (getD os k 0)
 
   samples-listed : map (sampleOf l) os ≡ listFrom sampleAt 0 (length os)
-  samples-listed = listFrom-is sampleAt (sampleOf l 0) (length os) (map (sampleOf l) os) (length-map os (sampleOf l)) (λ k h. List·getD-map (sampleOf l) os k 0)
+  samples-listed = listFrom-is sampleAt (sampleOf l 0) (length os) (map (sampleOf l) os) (length-map os (sampleOf l))
+      (λ k h. List·getD-map (sampleOf l) os k 0)
 
   module _ (xs : List ℤ) where
     pub linear-refused : length xs < length os → (bare 17 ≡ linearRefusal (linearCall l os xs)) × (xs ≡ linearSamples (linearCall l os xs))

@@ -3,7 +3,8 @@ use mathlib.Core.Path.{_≡_, refl, sym, ap, ap₂, _∙_}
 use Prim.Native.Nat.{ℕ, zero, suc, _+_, _*_, _/_, _%_, _^_, _≤_, _<_, suc-le-suc}
 use mathlib.Core.Bool.{Bool, true, false}
 use mathlib.Core.List.{List, [], _∷_, _++_}
-use native.Mathlib.Nat.{add-zero, zero-add, add-suc, suc-add, mul-assoc, pow-suc, mod-one, div-one, mod-eq-of-lt, zero-div, not-suc-le-zero, zero-lt-suc, le-of-suc-le-suc, suc-ne-zero, suc-inj}
+use native.Mathlib.Nat.{add-zero, zero-add, add-suc, suc-add, mul-assoc, pow-suc, mod-one, div-one, mod-eq-of-lt, zero-div, not-suc-le-zero}
+use native.Mathlib.Nat.{zero-lt-suc, le-of-suc-le-suc, suc-ne-zero, suc-inj}
 use native.Mathlib.Numerals.{add-one, one-add}
 use native.Mathlib.Omega.{arith}
 use lib.Dec.{lit<}
@@ -60,7 +61,8 @@ field-lt f p (suc k) = rw (pow-suc 2 k) (omega (arith, weight-lt (f p), field-lt
 pub field-bit : (f : ℕ → Bool) (p k j : ℕ) → j < k → bit (field f p k) j ≡ f (p + j)
 unfolding field
 field-bit f p zero j h = absurd (not-suc-le-zero h)
-field-bit f p (suc k) zero h = ap odd (div-one (weight (f p) + 2 * field f (suc p) k)) ∙ odd-digit (f p) (field f (suc p) k) ∙ ap f (sym (add-zero p))
+field-bit f p (suc k) zero h =
+    ap odd (div-one (weight (f p) + 2 * field f (suc p) k)) ∙ odd-digit (f p) (field f (suc p) k) ∙ ap f (sym (add-zero p))
 field-bit f p (suc k) (suc j) h =
     bit-suc (weight (f p) + 2 * field f (suc p) k) j ∙ ap (λ (x : ℕ). bit x j) (half-digit (f p) (field f (suc p) k))
     ∙ field-bit f (suc p) k j (le-of-suc-le-suc h) ∙ ap f (suc-add p j ∙ sym (add-suc p j))
@@ -70,7 +72,8 @@ unfolding field
 field-ext f g p q zero e = refl
 field-ext f g p q (suc k) e =
     ap₂ (λ (a : Bool) (b : ℕ). weight a + 2 * b) (ap f (sym (add-zero p)) ∙ e zero (zero-lt-suc k) ∙ ap g (add-zero q))
-    (field-ext f g (suc p) (suc q) k (λ j h. ap f (suc-add p j ∙ sym (add-suc p j)) ∙ e (suc j) (suc-le-suc h) ∙ ap g (add-suc q j ∙ sym (suc-add q j))))
+    (field-ext f g (suc p) (suc q) k (λ j h. ap f (suc-add p j ∙ sym (add-suc p j)) ∙ e (suc j) (suc-le-suc h)
+    ∙ ap g (add-suc q j ∙ sym (suc-add q j))))
 
 -- a field in two parts
 pub field-split : (f : ℕ → Bool) (p a b : ℕ) → field f p (a + b) ≡ field f p a + 2 ^ a * field f (p + a) b
@@ -80,7 +83,8 @@ field-split f p zero b =
     ap (field f p) (zero-add b) ∙ ap (λ (q : ℕ). field f q b) (sym (add-zero p)) ∙ sym e
 field-split f p (suc a) b =
     let e : 2 ^ suc a * field f (p + suc a) b ≡ 2 * (2 ^ a * field f (suc p + a) b)
-    = ap₂ (λ (x q : ℕ). x * field f q b) (pow-suc 2 a) (add-suc p a ∙ sym (suc-add p a)) ∙ omega (arith, mul-assoc (2 ^ a) 2 (field f (suc p + a) b), mul-assoc 2 (2 ^ a) (field f (suc p + a) b)) in
+    = ap₂ (λ (x q : ℕ). x * field f q b) (pow-suc 2 a) (add-suc p a ∙ sym (suc-add p a))
+    ∙ omega (arith, mul-assoc (2 ^ a) 2 (field f (suc p + a) b), mul-assoc 2 (2 ^ a) (field f (suc p + a) b)) in
     ap (field f p) (suc-add a b) ∙ omega (arith, field-split f (suc p) a b, e)
 
 -- the bits of a number from place p on
@@ -112,7 +116,8 @@ length-bytesOf n f = length-listFrom (λ k. field f (8 * k) 8) 0 n
 pub bytesOf-ext : (n : ℕ) (f g : ℕ → Bool) → ((p : ℕ) → p < 8 * n → f p ≡ g p) → bytesOf n f ≡ bytesOf n g
 unfolding bytesOf
 bytesOf-ext n f g h =
-    listFrom-ext (λ k. field f (8 * k) 8) (λ k. field g (8 * k) 8) n (λ k b. field-ext f g (8 * k) (8 * k) 8 (λ j l. h (8 * k + j) (omega arith)))
+    listFrom-ext (λ k. field f (8 * k) 8) (λ k. field g (8 * k) 8) n
+    (λ k b. field-ext f g (8 * k) (8 * k) 8 (λ j l. h (8 * k + j) (omega arith)))
 
 -- the bits of the bytes of a bit string are its own
 pub bitAt-bytes : (n : ℕ) (f : ℕ → Bool) (t : List ℕ) (p : ℕ) → p < 8 * n → bitAt (bytesOf n f ++ t) p ≡ f p
@@ -127,7 +132,8 @@ bitAt-bytes n f t p h =
 -- the bytes of the bits of bytes are these
 pub bytes-back : (n : ℕ) (s : List ℕ) → ((i : ℕ) → getD s i 0 < 256) → n ≤ length s → bytesOf n (bitAt s) ≡ take n s
 unfolding bytesOf bitAt
-bytes-back n s b h = sym (listFrom-is (λ k. field (bitAt s) (8 * k) 8) 0 n (take n s) (length-take-le n s h) (λ k l. getD-take n s k 0 l ∙ sym (byte k)))
+bytes-back n s b h =
+    sym (listFrom-is (λ k. field (bitAt s) (8 * k) 8) 0 n (take n s) (length-take-le n s h) (λ k l. getD-take n s k 0 l ∙ sym (byte k)))
   where
     byte : (k : ℕ) → field (bitAt s) (8 * k) 8 ≡ getD s k 0
     byte k =
@@ -147,7 +153,8 @@ length-bitsIn n s = length-listFrom (bitAt s) 0 n
 -- bits that were written into bytes are read from them
 pub bits-written : (k n : ℕ) (bs : List Bool) (t : List ℕ) → length bs ≡ k → k ≤ 8 * n → bitsIn k (bytesOf n (nth bs) ++ t) ≡ bs
 unfolding bitsIn nth
-bits-written k n bs t e h = sym (listFrom-is (bitAt (bytesOf n (nth bs) ++ t)) false k bs e (λ p l. sym (bitAt-bytes n (nth bs) t p (omega arith))))
+bits-written k n bs t e h =
+    sym (listFrom-is (bitAt (bytesOf n (nth bs) ++ t)) false k bs e (λ p l. sym (bitAt-bytes n (nth bs) t p (omega arith))))
 
 pub numberOf-lt : (bs : List Bool) → numberOf bs < 2 ^ length bs
 unfolding numberOf
@@ -170,14 +177,16 @@ pub numberOf-at : (bs : List Bool) (i : ℕ) → bit (numberOf bs) i ≡ nth bs 
 unfolding numberOf nth
 numberOf-at [] i = ap odd (zero-div (2 ^ i))
 numberOf-at (b ∷ bs) zero = ap odd (div-one (weight b + 2 * numberOf bs)) ∙ odd-digit b (numberOf bs)
-numberOf-at (b ∷ bs) (suc i) = bit-suc (weight b + 2 * numberOf bs) i ∙ ap (λ (x : ℕ). bit x i) (half-digit b (numberOf bs)) ∙ numberOf-at bs i
+numberOf-at (b ∷ bs) (suc i) =
+    bit-suc (weight b + 2 * numberOf bs) i ∙ ap (λ (x : ℕ). bit x i) (half-digit b (numberOf bs)) ∙ numberOf-at bs i
 
 -- the bits of a field, as a list
 pub bits-field : (f : ℕ → Bool) (p k : ℕ) → bitsOf k (field f p k) ≡ listFrom f p k
 unfolding nth
 bits-field f p k =
     ext-getD false (bitsOf k (field f p k)) (listFrom f p k) (length-bitsOf k (field f p k) ∙ sym (length-listFrom f p k))
-    (λ i h. let l : i < k = rw (length-bitsOf k (field f p k)) at h in bitsOf-at k (field f p k) i l ∙ field-bit f p k i l ∙ sym (getD-listFrom f false p k i l))
+    (λ i h. let l : i < k = rw (length-bitsOf k (field f p k)) at h in bitsOf-at k (field f p k) i l ∙ field-bit f p k i l
+    ∙ sym (getD-listFrom f false p k i l))
 
 -- the bits of the number that bits form
 pub bits-back : (k : ℕ) (bs : List Bool) → length bs ≡ k → bitsOf k (numberOf bs) ≡ bs

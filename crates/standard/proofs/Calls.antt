@@ -8,7 +8,8 @@ use lib.ListN.{length, take, drop}
 use lib.Seq.{length-take-le, take-at}
 use Rattle.standard.specs.Bits.{bitsIn, bytesFor}
 use Rattle.standard.specs.Frame.{dataBits, sendFrames, sendAfter, receiveFrames, receiveMarks, receiveAfter}
-use Rattle.standard.specs.Calls.{accepted, SendCall, sendRefusal, sendBits, sendLeft, sendOctets, ReceiveCall, receiveRefusal, receiveOctets, receiveLeft, receiveBytes, receiveMarked}
+use Rattle.standard.specs.Calls.{accepted, SendCall, sendRefusal, sendBits, sendLeft, sendOctets, ReceiveCall, receiveRefusal}
+use Rattle.standard.specs.Calls.{receiveOctets, receiveLeft, receiveBytes, receiveMarked}
 use Rattle.standard.specs.declared.Law.{Law}
 use Rattle.standard.specs.declared.LineState.{LineState}
 use Rattle.standard.specs.declared.Record.{Record}
@@ -29,7 +30,8 @@ sends-own st c e =
     let os = sendFrames (c .cp) (c .law) n st (sendBits c) in
     record {
       many = length-bitsIn (dataBits (c .cp) n) (c .bytes);
-      octets = rw e (take-at os (drop (length os) (c .octets)) (6 * n) (length-sendFrames (c .cp) (c .law) n st (sendBits c) ∙ omega arith));
+      octets = rw e
+          (take-at os (drop (length os) (c .octets)) (6 * n) (length-sendFrames (c .cp) (c .law) n st (sendBits c) ∙ omega arith));
       state = rw e;
       holds = holds-passed (c .cp) st n _ _ (passed (c .cp) st n _ _ e);
     }

@@ -44,14 +44,20 @@ unfolding labelOf
 names-top m n e = record { below = omega arith; belongs = e; label = rw (eq-eqb n n refl) }
 
 names-up : (m : ℕ → Bool) (n c u c′ : ℕ) → weight (m n) + c ≡ c′ → Names m n c u → Names m (suc n) c′ u
-names-up m n c u c′ e k = record { below = omega arith; belongs = k .belongs; label = label-up m n u (k .below) ∙ ap (λ (x : ℕ). weight (m n) + x) (k .label) ∙ e }
+names-up m n c u c′ e k = record {
+  below = omega arith;
+  belongs = k .belongs;
+  label = label-up m n u (k .below)
+      ∙ ap (λ (x : ℕ). weight (m n) + x) (k .label) ∙ e;
+}
 
 pub names : (m : ℕ → Bool) (n c : ℕ) → c < sizeOf m n → Names m n c (pointOf m n c)
 unfolding sizeOf pointOf
 names m zero c h = absurd (not-suc-le-zero h)
 names m (suc n) zero h = go (names m n zero) (m n) refl
   where
-    go : (zero < sizeOf m n → Names m n zero (pointOf m n zero)) → (b : Bool) → m n ≡ b → Names m (suc n) zero (cond (m n) n (pointOf m n zero))
+    go : (zero < sizeOf m n → Names m n zero (pointOf m n zero)) → (b : Bool) → m n ≡ b
+        → Names m (suc n) zero (cond (m n) n (pointOf m n zero))
     go ih true e = rw e (names-top m n e)
     go ih false e = rw e (names-up m n zero (pointOf m n zero) zero (rw e) (ih (omega (arith, rw e at h))))
 names m (suc n) (suc c) h = go (names m n c) (names m n (suc c)) (m n) refl
@@ -67,7 +73,8 @@ unfolding labelOf sizeOf
 label-above m zero u h = absurd (not-suc-le-zero h)
 label-above m (suc n) u h = go (label-above m n u) (eq-or-lt-of-le (le-of-suc-le-suc h))
   where
-    go : (u < n → labelOf m n u + sizeOf m (suc u) ≡ sizeOf m n) → (u ≡ n) ⊎ (u < n) → labelOf m (suc n) u + sizeOf m (suc u) ≡ sizeOf m (suc n)
+    go : (u < n → labelOf m n u + sizeOf m (suc u) ≡ sizeOf m n) → (u ≡ n) ⊎ (u < n)
+        → labelOf m (suc n) u + sizeOf m (suc u) ≡ sizeOf m (suc n)
     go ih (inl e) = rw (e, eq-eqb n n refl) (omega arith)
     go ih (inr l) = rw (ne-eqb u n (omega arith)) (omega (arith, ih l))
 
@@ -121,7 +128,8 @@ module _ (m : ℕ → Bool) (v n : ℕ) (h : v ≤ n) where
   unfolding sizeOf
   stretch-none f =
       let e : v + (n - v) ≡ n = omega arith in
-      let z : sizeOf (λ u. m (v + u)) (n - v) ≡ 0 = sizeOf-ext (λ u. m (v + u)) (λ u. false) (n - v) (λ u l. f (v + u) (omega arith) (omega arith)) ∙ nothing (n - v) in
+      let z : sizeOf (λ u. m (v + u)) (n - v) ≡ 0 = sizeOf-ext (λ u. m (v + u)) (λ u. false) (n - v)
+      (λ u l. f (v + u) (omega arith) (omega arith)) ∙ nothing (n - v) in
       omega (arith, sizeOf-split m v (n - v), ap (sizeOf m) e)
     where
       nothing : (k : ℕ) → sizeOf (λ u. false) k ≡ 0

@@ -81,19 +81,24 @@ module _ (r : Record) where
   run-off k n (inl a) = covers-no (runField k) n (inl (omega arith))
   run-off k n (inr a) = covers-no (runField k) n (inr (omega arith))
 
-  runs-off : (i m n : ℕ) → ((k : ℕ) → i ≤ k → k < i + m → (n < 137 + 17 * k) ⊎ (153 + 17 * k ≤ n)) → covered (listFrom runField i m) n ≡ false
+  runs-off : (i m n : ℕ) → ((k : ℕ) → i ≤ k → k < i + m → (n < 137 + 17 * k) ⊎ (153 + 17 * k ≤ n))
+      → covered (listFrom runField i m) n ≡ false
   unfolding listFrom
   runs-off i zero n h = refl
-  runs-off i (suc m) n h = ap₂ _||_ (run-off i n (h i (omega arith) (omega arith))) (runs-off (suc i) m n (λ k a b. h k (omega arith) (omega arith)))
+  runs-off i (suc m) n h =
+      ap₂ _||_ (run-off i n (h i (omega arith) (omega arith))) (runs-off (suc i) m n (λ k a b. h k (omega arith) (omega arith)))
 
   -- bit j of run k
-  run-at : (i m k j : ℕ) (ys : List Field) → i ≤ k → k < i + m → j < 16 → bitIn (listFrom runField i m ++ ys) (137 + 17 * k + j) ≡ inMask r (k / 8) (16 * (k % 8) + j)
+  run-at : (i m k j : ℕ) (ys : List Field) → i ≤ k → k < i + m → j < 16 → bitIn (listFrom runField i m ++ ys) (137 + 17 * k + j)
+      ≡ inMask r (k / 8) (16 * (k % 8) + j)
   unfolding listFrom bitIn
   run-at i zero k j ys a b h = absurd (omega arith)
   run-at i (suc m) k j ys a b h = go (run-at (suc i) m k j ys) (eq-or-lt-of-le a)
     where
-      go : (suc i ≤ k → k < suc i + m → j < 16 → bitIn (listFrom runField (suc i) m ++ ys) (137 + 17 * k + j) ≡ inMask r (k / 8) (16 * (k % 8) + j)) → (i ≡ k) ⊎ (i < k)
-          → cond (covers (runField i) (137 + 17 * k + j)) (bit (runField i .value) (137 + 17 * k + j - runField i .at)) (bitIn (listFrom runField (suc i) m ++ ys) (137 + 17 * k + j))
+      go : (suc i ≤ k → k < suc i + m → j < 16 → bitIn (listFrom runField (suc i) m ++ ys) (137 + 17 * k + j)
+          ≡ inMask r (k / 8) (16 * (k % 8) + j)) → (i ≡ k) ⊎ (i < k)
+          → cond (covers (runField i) (137 + 17 * k + j)) (bit (runField i .value) (137 + 17 * k + j - runField i .at))
+          (bitIn (listFrom runField (suc i) m ++ ys) (137 + 17 * k + j))
           ≡ inMask r (k / 8) (16 * (k % 8) + j)
       go ih (inl e) =
           let z : 137 + 17 * k + j - runPlace (k / 8) (k % 8) ≡ j = omega arith in
@@ -143,7 +148,8 @@ module _ (r : Record) where
       let d : (8 * m + u / 16) / 8 ≡ m = omega arith in
       let c : 16 * ((8 * m + u / 16) % 8) + u % 16 ≡ u = omega arith in
       rw (p, append-assoc (headFields r) (maskFields r) (crcField r ∷ []))
-      (bitIn-right (headFields r) (maskFields r ++ (crcField r ∷ [])) (137 + 17 * (8 * m + u / 16) + u % 16) (head-off (137 + 17 * (8 * m + u / 16) + u % 16) (omega arith))
+      (bitIn-right (headFields r) (maskFields r ++ (crcField r ∷ [])) (137 + 17 * (8 * m + u / 16) + u % 16)
+      (head-off (137 + 17 * (8 * m + u / 16) + u % 16) (omega arith))
       ∙ run-at 0 (8 * (g + 1)) (8 * m + u / 16) (u % 16) (crcField r ∷ []) (omega arith) (omega arith) (omega arith) ∙ ap₂ (inMask r) d c)
 
   body-off : (n : ℕ) → 137 ≤ n → (n % 17 ≡ 0) ⊎ (272 + gamma g ≤ n) → covered (cpBody r) n ≡ false
@@ -161,7 +167,8 @@ module _ (r : Record) where
   -- zeros: start bits from the masks on, fill and padding
   pub cp-zero : (n : ℕ) → 137 ≤ n → (n % 17 ≡ 0) ⊎ (289 + gamma g ≤ n) → cpBit r n ≡ false
   unfolding cpBit
-  cp-zero n h o = bitIn-none (cpBody r ++ (crcField r ∷ [])) n (covered-append (cpBody r) (crcField r ∷ []) n (body-off n h (body o)) (crc-off n (crc o (decLe n (272 + gamma g)))))
+  cp-zero n h o = bitIn-none (cpBody r ++ (crcField r ∷ [])) n
+      (covered-append (cpBody r) (crcField r ∷ []) n (body-off n h (body o)) (crc-off n (crc o (decLe n (272 + gamma g)))))
     where
       body : (n % 17 ≡ 0) ⊎ (289 + gamma g ≤ n) → (n % 17 ≡ 0) ⊎ (272 + gamma g ≤ n)
       body (inl e) = inl e

@@ -20,14 +20,17 @@ cond-lt false x y k h l = l
 
 pub crcStep-lt : (x : ℕ) (b : Bool) → x < 2 ^ 16 → crcStep x b < 2 ^ 16
 unfolding crcStep
-crcStep-lt x b h = cond-lt (odd x ⊕ b) (bitXor (x / 2) 0x8408) (x / 2) (2 ^ 16) (xor-lt 16 (x / 2) 0x8408 (omega arith) (lit< tt)) (omega arith)
+crcStep-lt x b h =
+    cond-lt (odd x ⊕ b) (bitXor (x / 2) 0x8408) (x / 2) (2 ^ 16) (xor-lt 16 (x / 2) 0x8408 (omega arith) (lit< tt)) (omega arith)
 
 pub crcBelow-lt : (f : ℕ → Bool) (n : ℕ) → crcBelow f n < 2 ^ 16
 unfolding crcBelow
 crcBelow-lt f zero = lit< tt
-crcBelow-lt f (suc n) = cond-lt (outsideCrc n) (crcBelow f n) (crcStep (crcBelow f n) (f n)) (2 ^ 16) (crcBelow-lt f n) (crcStep-lt (crcBelow f n) (f n) (crcBelow-lt f n))
+crcBelow-lt f (suc n) = cond-lt (outsideCrc n) (crcBelow f n) (crcStep (crcBelow f n) (f n)) (2 ^ 16) (crcBelow-lt f n)
+    (crcStep-lt (crcBelow f n) (f n) (crcBelow-lt f n))
 
 pub crcBelow-ext : (f g : ℕ → Bool) (n : ℕ) → ((k : ℕ) → k < n → f k ≡ g k) → crcBelow f n ≡ crcBelow g n
 unfolding crcBelow
 crcBelow-ext f g zero h = refl
-crcBelow-ext f g (suc n) h = ap₂ (λ (x : ℕ) (b : Bool). cond (outsideCrc n) x (crcStep x b)) (crcBelow-ext f g n (λ k l. h k (omega arith))) (h n (omega arith))
+crcBelow-ext f g (suc n) h =
+    ap₂ (λ (x : ℕ) (b : Bool). cond (outsideCrc n) x (crcStep x b)) (crcBelow-ext f g n (λ k l. h k (omega arith))) (h n (omega arith))

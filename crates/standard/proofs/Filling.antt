@@ -13,7 +13,8 @@ use Rattle.standard.specs.Calls.{over}
 use Rattle.standard.proofs.Lists.{length-listFrom, listFrom-is, listFrom-snoc}
 
 -- one place more
-pub one-more : {X : Type 0} (d : X) (f : ℕ → X) (xs : List X) (i : ℕ) (v : X) → i < length xs → v ≡ f i → ((k : ℕ) → k < i → getD xs k d ≡ f k)
+pub one-more : {X : Type 0} (d : X) (f : ℕ → X) (xs : List X) (i : ℕ) (v : X) → i < length xs → v ≡ f i
+    → ((k : ℕ) → k < i → getD xs k d ≡ f k)
     → (k : ℕ) → k < i + 1 → getD (set xs i v) k d ≡ f k
 one-more d f xs i v h e done k l = go (eq-or-lt-of-le (omega arith))
   where
@@ -30,7 +31,8 @@ pub filled-none : (f : ℕ → ℕ) (n : ℕ) (xs : List ℕ) → length xs ≡ 
 filled-none f n xs e = record { long = e; done = λ k l. absurd (not-suc-le-zero l) }
 
 pub filled-more : {f : ℕ → ℕ} {n i : ℕ} {xs : List ℕ} (v : ℕ) → Filled f n xs i → i < n → v ≡ f i → Filled f n (set xs i v) (i + 1)
-filled-more {f} {n} {i} {xs} v p h e = record { long = length-set xs i v ∙ p .long; done = one-more 0 f xs i v (omega (arith, p .long)) e (p .done) }
+filled-more {f} {n} {i} {xs} v p h e =
+    record { long = length-set xs i v ∙ p .long; done = one-more 0 f xs i v (omega (arith, p .long)) e (p .done) }
 
 pub filled-all : {f : ℕ → ℕ} {n : ℕ} {xs : List ℕ} → Filled f n xs n → xs ≡ listFrom f 0 n
 filled-all {f} {n} {xs} p = listFrom-is f 0 n xs (p .long) (p .done)
@@ -41,10 +43,20 @@ module _ {X : Type 0} (f : ℕ → X) (d : List X) where
   unfolding listFrom
   listed-none = refl
 
-  pub listed-more : (xs : List X) (n : ℕ) (v : X) → xs ≡ listFrom f 0 n ++ drop n d → n < length d → v ≡ f n → set xs n v ≡ listFrom f 0 (n + 1) ++ drop (n + 1) d
+  pub listed-more : (xs : List X) (n : ℕ) (v : X) → xs ≡ listFrom f 0 n ++ drop n d → n < length d → v ≡ f n
+      → set xs n v ≡ listFrom f 0 (n + 1) ++ drop (n + 1) d
   listed-more xs n v e h q =
       let z : 0 + n ≡ n = omega arith in
-      rw (e, drop-cons d n (f n), set-at (listFrom f 0 n) (getD d n (f n)) (drop (suc n) d) v n (length-listFrom f 0 n), q, add-one, listFrom-snoc f 0 n, z)
+      rw (
+        e,
+        drop-cons d n (f n),
+        set-at (listFrom f 0 n) (getD d n (f n)) (drop (suc n) d) v n
+            (length-listFrom f 0 n),
+        q,
+        add-one,
+        listFrom-snoc f 0 n,
+        z,
+      )
       (sym (append-assoc (listFrom f 0 n) (f n ∷ []) (drop (suc n) d)))
 
   pub listed-all : (xs : List X) (n : ℕ) → xs ≡ listFrom f 0 n ++ drop n d → xs ≡ over (listFrom f 0 n) d

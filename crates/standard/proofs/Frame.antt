@@ -18,11 +18,14 @@ use Rattle.standard.specs.Constellation.{member, size, label, point, siz
 use Rattle.standard.specs.Modulus.{product, number}
 use Rattle.standard.specs.Signs.{signBits}
 use Rattle.standard.specs.Octets.{octet, signOf, ucodeOf}
-use Rattle.standard.specs.Frame.{lineBits, frameSigns, frameLabels, frameOctets, sendFrame, sendNext, signAt, ucodeAt, receivedNumber, outsideTest, outsideTests, markTests, mark, good, heardBits, receiveFrame, receiveNext, sendFrames, sendAfter, receiveFrames, receiveMarks, receiveAfter}
+use Rattle.standard.specs.Frame.{lineBits, frameSigns, frameLabels, frameOctets, sendFrame, sendNext, signAt, ucodeAt, receivedNumber}
+use Rattle.standard.specs.Frame.{outsideTest, outsideTests, markTests, mark, good, heardBits, receiveFrame, receiveNext, sendFrames}
+use Rattle.standard.specs.Frame.{sendAfter, receiveFrames, receiveMarks, receiveAfter}
 use Rattle.standard.specs.declared.Law.{Law}
 use Rattle.standard.specs.declared.LineState.{LineState}
 use Rattle.standard.specs.declared.Record.{Record}
-use Rattle.standard.proofs.Lists.{length-listFrom, getD-list, listFrom-is, joined-snoc, length-joined, length-parts, parts-snoc, each-append, after-append, length-each, sized-each}
+use Rattle.standard.proofs.Lists.{length-listFrom, getD-list, listFrom-is, joined-snoc, length-joined, length-parts, parts-snoc}
+use Rattle.standard.proofs.Lists.{each-append, after-append, length-each, sized-each}
 use Rattle.standard.proofs.First.{None, same-number, first-hit, first-none, none-append, none-listFrom, first-append}
 use Rattle.standard.proofs.Bits.{numberOf-lt, bits-back, length-bitsOf}
 use Rattle.standard.proofs.Scrambler.{length-scramble, length-descramble}
@@ -81,7 +84,8 @@ module _ (r : Record) (l : Law) (os : List ℕ) where
   unfolding receiveFrame
   marked-bits st e = rw e
 
-  pub marked-history : (st : LineState) → good r l os ≡ false → receiveNext r l st os .history ≡ pushAll (st .history) (replicate (D r) false)
+  pub marked-history : (st : LineState) → good r l os ≡ false → receiveNext r l st os .history
+      ≡ pushAll (st .history) (replicate (D r) false)
   unfolding receiveNext heardBits
   marked-history st e = rw e
 
@@ -114,7 +118,8 @@ module _ (r : Record) (l : Law) (holds : Holds r) (g : Bool) (ss : List Bool) (l
     u = point r i (getD (frameLabels r ss) i 0)
 
     named : Names (member r i) 128 (getD (frameLabels r ss) i 0) u
-    named = names (member r i) 128 (getD (frameLabels r ss) i 0) (rw (← size-at r i h) (within-at (sizes r) (frameLabels r ss) labels-fit i (rw length-sizes h)))
+    named = names (member r i) 128 (getD (frameLabels r ss) i 0)
+        (rw (← size-at r i h) (within-at (sizes r) (frameLabels r ss) labels-fit i (rw length-sizes h)))
 
     octet-at : getD os i 0 ≡ octet l (nth (frameSigns g ss) i) u
     unfolding frameOctets
@@ -135,7 +140,8 @@ module _ (r : Record) (l : Law) (holds : Holds r) (g : Bool) (ss : List Bool) (l
   number-back : receivedNumber r l os ≡ numberOf (drop 6 ss)
   unfolding receivedNumber frameLabels sizes listFrom
   number-back =
-      ap (number (sizes r)) (sym (listFrom-is (λ i. label r i (ucodeAt l os i)) 0 6 (frameLabels r ss) six-labels (λ i h. sym (label-at i h))))
+      ap (number (sizes r))
+      (sym (listFrom-is (λ i. label r i (ucodeAt l os i)) 0 6 (frameLabels r ss) six-labels (λ i h. sym (label-at i h))))
       ∙ number-labels (size r 0) (listFrom (size r) 1 5) (numberOf (drop 6 ss))
 
   signs-are : listFrom (signAt os) 0 6 ≡ frameSigns g ss
@@ -151,7 +157,8 @@ module _ (r : Record) (l : Law) (holds : Holds r) (g : Bool) (ss : List Bool) (l
   unfolding heardBits frameSigns
   frame-heard g′ =
       rw (frame-mark, signs-are, number-back, signs-taken, bits-back (K r) (drop 6 ss) R-long)
-      (sym (taken-append g g′ (take 6 ss) (drop 6 ss) (omega (arith, length-take-le 6 ss (omega arith)))) ∙ ap (taken g g′) (take-append-drop 6 ss))
+      (sym (taken-append g g′ (take 6 ss) (drop 6 ss) (omega (arith, length-take-le 6 ss (omega arith))))
+      ∙ ap (taken g g′) (take-append-drop 6 ss))
 
   pub frame-sign : signAt (frameOctets r l g ss) 5 ≡ nth (frameSigns g ss) 5
   frame-sign = sign-at 5 (lit< tt)
@@ -189,7 +196,14 @@ module _ (r : Record) (l : Law) where
       let ts = signBits g (listFrom (signAt os) 0 6) in
       let ns = bitsOf (K r) (receivedNumber r l os) in
       length-cond (good r l os) (D r) (ts ++ ns) (replicate (D r) false)
-      (omega (arith, length-append ts ns, length-signBits g (listFrom (signAt os) 0 6), length-listFrom (signAt os) 0 6, length-bitsOf (K r) (receivedNumber r l os)))
+      (omega (
+        arith,
+        length-append ts ns,
+        length-signBits g (listFrom (signAt os) 0 6),
+        length-listFrom (signAt os) 0 6,
+        length-bitsOf (K r)
+            (receivedNumber r l os),
+      ))
       (length-replicate (D r) false)
 
   pub length-receiveFrame : (st : LineState) (os : List ℕ) → length (receiveFrame r l st os) ≡ D r
@@ -216,7 +230,8 @@ module _ (r : Record) (l : Law) (n : ℕ) (st : LineState) where
   unfolding receiveFrames
   length-receiveFrames os =
       let fs = parts 6 n os in
-      length-joined (D r) (each (receiveFrame r l) (receiveNext r l) st fs) (sized-each (receiveFrame r l) (receiveNext r l) (D r) (length-receiveFrame r l) st fs)
+      length-joined (D r) (each (receiveFrame r l) (receiveNext r l) st fs)
+      (sized-each (receiveFrame r l) (receiveNext r l) (D r) (length-receiveFrame r l) st fs)
       ∙ ap (λ (x : ℕ). x * D r) (length-each (receiveFrame r l) (receiveNext r l) st fs ∙ length-parts 6 n os)
 
   pub length-receiveMarks : (os : List ℕ) → length (receiveMarks r l n os) ≡ n
@@ -234,11 +249,13 @@ module _ (r : Record) (l : Law) (n : ℕ) (st : LineState) where
   sendAfter-next ds = rw (parts-snoc, after-append)
 
   pub receiveFrames-next : (os : List ℕ)
-      → receiveFrames r l (n + 1) st os ≡ receiveFrames r l n st os ++ receiveFrame r l (receiveAfter r l n st os) (take 6 (drop (n * 6) os))
+      → receiveFrames r l (n + 1) st os ≡ receiveFrames r l n st os ++ receiveFrame r l (receiveAfter r l n st os)
+      (take 6 (drop (n * 6) os))
   unfolding receiveFrames receiveAfter each
   receiveFrames-next os = rw (parts-snoc, each-append) (joined-snoc (each (receiveFrame r l) (receiveNext r l) st (parts 6 n os)) _)
 
-  pub receiveAfter-next : (os : List ℕ) → receiveAfter r l (n + 1) st os ≡ receiveNext r l (receiveAfter r l n st os) (take 6 (drop (n * 6) os))
+  pub receiveAfter-next : (os : List ℕ) → receiveAfter r l (n + 1) st os ≡ receiveNext r l (receiveAfter r l n st os)
+      (take 6 (drop (n * 6) os))
   unfolding receiveAfter after
   receiveAfter-next os = rw (parts-snoc, after-append)
 

@@ -32,7 +32,8 @@ module _ {X : Type 0} (f : ℕ → X) where
   -- a list of n elements, each as f says
   pub listFrom-is : (d : X) (n : ℕ) (xs : List X) → length xs ≡ n → ((k : ℕ) → k < n → getD xs k d ≡ f k) → xs ≡ listFrom f 0 n
   listFrom-is d n xs e h =
-      ext-getD d xs (listFrom f 0 n) (e ∙ sym (length-listFrom 0 n)) (λ k b. let b′ : k < n = omega arith in h k b′ ∙ sym (getD-list d n k b′))
+      ext-getD d xs (listFrom f 0 n) (e ∙ sym (length-listFrom 0 n))
+      (λ k b. let b′ : k < n = omega arith in h k b′ ∙ sym (getD-list d n k b′))
 
   -- the first element apart
   pub listFrom-cons : (i n : ℕ) → 0 < n → listFrom f i n ≡ f i ∷ listFrom f (i + 1) (n - 1)
@@ -47,7 +48,8 @@ module _ {X : Type 0} (f : ℕ → X) where
   unfolding listFrom
   listFrom-snoc i zero = ap (λ (x : ℕ). f x ∷ []) (sym (add-zero i))
   listFrom-snoc i (suc n) =
-      ap (λ (xs : List X). f i ∷ xs) (listFrom-snoc (suc i) n ∙ ap (λ (x : ℕ). listFrom f (suc i) n ++ (f x ∷ [])) (suc-add i n ∙ sym (add-suc i n)))
+      ap (λ (xs : List X). f i ∷ xs)
+      (listFrom-snoc (suc i) n ∙ ap (λ (x : ℕ). listFrom f (suc i) n ++ (f x ∷ [])) (suc-add i n ∙ sym (add-suc i n)))
 
 pub listFrom-ext : {X : Type 0} (f g : ℕ → X) (n : ℕ) → ((k : ℕ) → k < n → f k ≡ g k) → listFrom f 0 n ≡ listFrom g 0 n
 listFrom-ext f g n h = listFrom-is g (f 0) n (listFrom f 0 n) (length-listFrom f 0 n) (λ k l. getD-list f (f 0) n k l ∙ h k l)
@@ -69,7 +71,8 @@ module _ (f : ℕ → Bool) (i : ℕ) where
   any-none zero e k a b = absurd (omega arith)
   any-none (suc n) e k a b = go (or-none (any f i n) (f (i + n)) e) (any-none n) (eq-or-lt-of-le (le-of-suc-le-suc (rw add-suc at b)))
     where
-      go : (any f i n ≡ false) × (f (i + n) ≡ false) → (any f i n ≡ false → (k : ℕ) → i ≤ k → k < i + n → f k ≡ false) → (k ≡ i + n) ⊎ (k < i + n) → f k ≡ false
+      go : (any f i n ≡ false) × (f (i + n) ≡ false) → (any f i n ≡ false → (k : ℕ) → i ≤ k → k < i + n → f k ≡ false) → (k ≡ i + n)
+          ⊎ (k < i + n) → f k ≡ false
       go p ih (inl q) = ap f q ∙ p .1
       go p ih (inr q) = ih (p .0) k a q
 
@@ -200,7 +203,8 @@ module _ {X : Type 0} where
   unfolding parts joined
   joined-parts k zero [] e = refl
   joined-parts k zero (x ∷ xs) e = absurd (suc-ne-zero (length xs) (e ∙ zero-mul k))
-  joined-parts k (suc n) xs e = ap (λ (r : List X). take k xs ++ r) (joined-parts k n (drop k xs) (omega (arith, length-drop k xs))) ∙ take-append-drop k xs
+  joined-parts k (suc n) xs e =
+      ap (λ (r : List X). take k xs ++ r) (joined-parts k n (drop k xs) (omega (arith, length-drop k xs))) ∙ take-append-drop k xs
 
   -- one part more
   pub parts-snoc : (k n : ℕ) (xs : List X) → parts k (n + 1) xs ≡ parts k n xs ++ (take k (drop (n * k) xs) ∷ [])

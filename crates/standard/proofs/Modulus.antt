@@ -3,7 +3,8 @@ use mathlib.Core.Path.{_≡_, refl, sym, ap, _∙_, subst}
 use mathlib.Core.Logic.{_⊎_, inl, inr}
 use Prim.Native.Nat.{ℕ, zero, suc, _+_, _*_, _/_, _%_, _≤_, _<_}
 use mathlib.Core.List.{List, [], _∷_}
-use native.Mathlib.Nat.{mod-lt, mod-add-div, div-lt-iff-lt-mul, mul-comm, not-suc-le-zero, eq-zero-or-pos, zero-mul, mul-zero, le-trans, le-refl, le-of-eq, add-comm, mul-suc, mul-le-mul-left, add-lt-add-of-lt-of-le}
+use native.Mathlib.Nat.{mod-lt, mod-add-div, div-lt-iff-lt-mul, mul-comm, not-suc-le-zero, eq-zero-or-pos, zero-mul, mul-zero, le-trans}
+use native.Mathlib.Nat.{le-refl, le-of-eq, add-comm, mul-suc, mul-le-mul-left, add-lt-add-of-lt-of-le}
 use native.Mathlib.Omega.{arith}
 use lib.ListN.{length, getD}
 use Rattle.standard.specs.Lists.{listFrom}
@@ -37,7 +38,8 @@ within-at (M ∷ Ms) (c ∷ cs) w (suc i) h = within-at Ms cs (w .1) i (omega ar
 pub within-listFrom : (M c : ℕ → ℕ) (i n : ℕ) → ((k : ℕ) → i ≤ k → k < i + n → c k < M k) → Within (listFrom M i n) (listFrom c i n)
 unfolding listFrom
 within-listFrom M c i zero h = tt
-within-listFrom M c i (suc n) h = (h i (omega arith) (omega arith), within-listFrom M c (suc i) n (λ k a b. h k (omega arith) (omega arith)))
+within-listFrom M c i (suc n) h =
+    (h i (omega arith) (omega arith), within-listFrom M c (suc i) n (λ k a b. h k (omega arith) (omega arith)))
 
 -- a product with a factor 0
 pub product-zero : (Ms : List ℕ) (i : ℕ) → i < length Ms → getD Ms i 0 ≡ 0 → product Ms ≡ 0

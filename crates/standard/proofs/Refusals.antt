@@ -17,7 +17,9 @@ use Rattle.standard.specs.Record.{indexOf, topIndex, halfOf, K}
 use Rattle.standard.specs.Cp.{within}
 use Rattle.standard.specs.Constellation.{size, sizes}
 use Rattle.standard.specs.Modulus.{product}
-use Rattle.standard.specs.Refusals.{indexTooLarge, drnTooLarge, grantedBelowFullRate, intervalEmpty, productTooSmall, maskAboveIndices, framesAtCleardown, historyTooLarge, tooManyFrames, emptyTest, emptyTests, rateTests, recordTests, readTests, writeTests, lineTests, bufferTests, frameTests}
+use Rattle.standard.specs.Refusals.{indexTooLarge, drnTooLarge, grantedBelowFullRate, intervalEmpty, productTooSmall}
+use Rattle.standard.specs.Refusals.{maskAboveIndices, framesAtCleardown, historyTooLarge, tooManyFrames, emptyTest, emptyTests}
+use Rattle.standard.specs.Refusals.{rateTests, recordTests, readTests, writeTests, lineTests, bufferTests, frameTests}
 use Rattle.standard.specs.Calls.{accepted}
 use Rattle.standard.specs.declared.LineState.{LineState}
 use Rattle.standard.specs.declared.Record.{Record}
@@ -50,11 +52,13 @@ module _ (r : Record) (top : topIndex r < 6) where
   pub half-zero : maskAboveIndices r ≡ false → (h : ℕ) → 2 * (topIndex r + 1) ≤ h → h < 12 → halfOf r h ≡ 0
   unfolding maskAboveIndices
   half-zero e h a b =
-      positive-false (halfOf r h) (any-none (λ h. positive (halfOf r h)) (2 * (topIndex r + 1)) (12 - 2 * (topIndex r + 1)) e h a (omega arith))
+      positive-false (halfOf r h)
+      (any-none (λ h. positive (halfOf r h)) (2 * (topIndex r + 1)) (12 - 2 * (topIndex r + 1)) e h a (omega arith))
 
   pub zero-half : ((h : ℕ) → 2 * (topIndex r + 1) ≤ h → h < 12 → halfOf r h ≡ 0) → maskAboveIndices r ≡ false
   unfolding maskAboveIndices
-  zero-half z = none-any (λ h. positive (halfOf r h)) (2 * (topIndex r + 1)) (12 - 2 * (topIndex r + 1)) (λ h a b. ap positive (z h a (omega arith)))
+  zero-half z =
+      none-any (λ h. positive (halfOf r h)) (2 * (topIndex r + 1)) (12 - 2 * (topIndex r + 1)) (λ h a b. ap positive (z h a (omega arith)))
 
 -- ---- an interval whose mask is empty
 
@@ -136,10 +140,12 @@ pub record Passed (r : Record) (st : LineState) (n : ℕ) (readShort writeShort 
   pub enough : readShort ≡ false
   pub room : writeShort ≡ false
 
-pub passed : (r : Record) (st : LineState) (n : ℕ) (readShort writeShort : Bool) → accepted (first (frameTests r st n readShort writeShort)) ≡ true → Passed r st n readShort writeShort
+pub passed : (r : Record) (st : LineState) (n : ℕ) (readShort writeShort : Bool)
+    → accepted (first (frameTests r st n readShort writeShort)) ≡ true → Passed r st n readShort writeShort
 unfolding frameTests lineTests bufferTests recordTests rateTests emptyTests emptyTest listFrom
 passed r st n readShort writeShort e =
-    let at = not-applied (frameTests r st n readShort writeShort) tt (eqb-true (first (frameTests r st n readShort writeShort) .number) 0 e) in
+    let at = not-applied (frameTests r st n readShort writeShort) tt
+    (eqb-true (first (frameTests r st n readShort writeShort) .number) 0 e) in
     record {
       index = at 0 (lit< tt);
       rate = at 1 (lit< tt);
@@ -154,7 +160,8 @@ passed r st n readShort writeShort e =
     }
 
 -- a frame is sent or received only where the record can carry its K bits
-pub holds-passed : (r : Record) (st : LineState) (n : ℕ) (readShort writeShort : Bool) → Passed r st n readShort writeShort → 0 < n → Holds r
+pub holds-passed : (r : Record) (st : LineState) (n : ℕ) (readShort writeShort : Bool) → Passed r st n readShort writeShort → 0 < n
+    → Holds r
 unfolding drnTooLarge productTooSmall framesAtCleardown
 holds-passed r st n readShort writeShort p h = go (eq-zero-or-pos (r .drn))
   where
@@ -163,4 +170,5 @@ holds-passed r st n readShort writeShort p h = go (eq-zero-or-pos (r .drn))
     go (inr k) =
         let rate : r .drn ≤ 28 = ltb-false 28 (r .drn) (p .rate) in
         ltb-false (product (sizes r)) (2 ^ K r)
-        (and-false-right (within 1 28 (r .drn)) (ltb (product (sizes r)) (2 ^ K r)) (ap₂ _&&_ (le-leb 1 (r .drn) k) (le-leb (r .drn) 28 rate)) (p .carries))
+        (and-false-right (within 1 28 (r .drn)) (ltb (product (sizes r)) (2 ^ K r))
+        (ap₂ _&&_ (le-leb 1 (r .drn) k) (le-leb (r .drn) 28 rate)) (p .carries))

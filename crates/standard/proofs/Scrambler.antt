@@ -73,7 +73,8 @@ any-close c h h′ l = let z : 23 - c ≡ 0 = omega arith in rw z (mod-one h ∙
 -- the same bit to both: one bit less
 closer : (c h h′ : ℕ) (b : Bool) → Close c h h′ → Close (c - 1) (push h b) (push h′ b)
 closer zero h h′ b e =
-    let low : (x : ℕ) → push x b % 2 ^ 23 ≡ x % 2 ^ 23 % 2 ^ 22 * 2 + weight b = λ x. push-low 22 0 x b refl ∙ ap (λ (y : ℕ). y * 2 + weight b) (sym (mod-mod-pow x 1 22)) in
+    let low : (x : ℕ) → push x b % 2 ^ 23 ≡ x % 2 ^ 23 % 2 ^ 22 * 2 + weight b = λ x. push-low 22 0 x b refl
+    ∙ ap (λ (y : ℕ). y * 2 + weight b) (sym (mod-mod-pow x 1 22)) in
     low h ∙ ap (λ (y : ℕ). y % 2 ^ 22 * 2 + weight b) e ∙ sym (low h′)
 closer (suc c) h h′ b e = let m : suc c - 1 ≡ c = omega arith in rw m (go (decLe 23 c))
   where
@@ -81,7 +82,8 @@ closer (suc c) h h′ b e = let m : suc c - 1 ≡ c = omega arith in rw m (go (d
     go (yes l) = any-close c (push h b) (push h′ b) l
     go (no l) =
         let k : 23 - c ≡ 23 - suc c + 1 = omega arith in
-        let low : (x : ℕ) → push x b % 2 ^ (23 - suc c + 1) ≡ x % 2 ^ (23 - suc c) * 2 + weight b = λ x. push-low (23 - suc c) c x b (omega arith) in
+        let low : (x : ℕ) → push x b % 2 ^ (23 - suc c + 1) ≡ x % 2 ^ (23 - suc c) * 2 + weight b = λ x. push-low (23 - suc c) c x b
+        (omega arith) in
         rw k (low h ∙ ap (λ (y : ℕ). y * 2 + weight b) e ∙ sym (low h′))
 
 pub closer-all : (c h h′ : ℕ) (ss : List Bool) → Close c h h′ → Close (c - length ss) (pushAll h ss) (pushAll h′ ss)
@@ -103,7 +105,8 @@ close-taps h h′ e =
     ap₂ _⊕_ (at 5 17 refl) (at 0 22 refl)
 
 -- so what is descrambled past c bits is the same
-pub same-past : (c h h′ : ℕ) (ss : List Bool) (p : ℕ) → Close c h h′ → c ≤ p → getD (descramble h ss) p false ≡ getD (descramble h′ ss) p false
+pub same-past : (c h h′ : ℕ) (ss : List Bool) (p : ℕ) → Close c h h′ → c ≤ p → getD (descramble h ss) p false
+    ≡ getD (descramble h′ ss) p false
 unfolding descramble
 same-past c h h′ [] p e l = refl
 same-past c h h′ (s ∷ ss) zero e l = let z : c ≡ 0 = omega arith in ap (λ (b : Bool). s ⊕ b) (close-taps h h′ (rw z at e))

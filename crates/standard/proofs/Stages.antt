@@ -12,7 +12,10 @@ use Rattle.standard.specs.Calls.{accepted}
 use Rattle.standard.specs.declared.Outcome.{Outcome}
 use Rattle.standard.specs.declared.Outcome.the-variants.{Done, Refused}
 use Rattle.standard.specs.declared.Refusal.{Refusal}
-use Rattle.standard.specs.declared.Refusal.the-variants.{CountExceedsBytes, CountTooSmall, SyncBroken, IndexTooLarge, LengthWrong, StartBitSet, CrcMismatch, FixedBitWrong, DrnTooLarge, GrantedBelowFullRate, ProductTooSmall, MaskAboveIndices, FramesAtCleardown, HistoryTooLarge, TooManyFrames, InputTooShort, OutputTooShort, IntervalEmpty}
+use Rattle.standard.specs.declared.Refusal.the-variants.{CountExceedsBytes, CountTooSmall, SyncBroken, IndexTooLarge, LengthWrong}
+use Rattle.standard.specs.declared.Refusal.the-variants.{StartBitSet, CrcMismatch, FixedBitWrong, DrnTooLarge, GrantedBelowFullRate}
+use Rattle.standard.specs.declared.Refusal.the-variants.{ProductTooSmall, MaskAboveIndices, FramesAtCleardown, HistoryTooLarge}
+use Rattle.standard.specs.declared.Refusal.the-variants.{TooManyFrames, InputTooShort, OutputTooShort, IntervalEmpty}
 use Rattle.standard.proofs.First.{numbered, None, none-first, first-append, first-left}
 
 -- no refusal has the number 0
@@ -39,7 +42,8 @@ refused-positive (IntervalEmpty i) = lit< tt
 -- an outcome says whether the call is accepted
 pub refused-not : (o : Outcome) (x : Refusal) (a : Answer) → o ≡ Refused x → outcomeAnswer o ≡ a → accepted a ≡ false
 refused-not o x a q e =
-    ap accepted (sym e ∙ ap outcomeAnswer q) ∙ ne-eqb (refusalAnswer x .number) 0 (λ (z : refusalAnswer x .number ≡ 0). omega (arith, refused-positive x))
+    ap accepted (sym e ∙ ap outcomeAnswer q) ∙ ne-eqb (refusalAnswer x .number) 0
+    (λ (z : refusalAnswer x .number ≡ 0). omega (arith, refused-positive x))
 
 pub done-accepted : (o : Outcome) (a : Answer) → o ≡ Done → outcomeAnswer o ≡ a → accepted a ≡ true
 done-accepted o a q e = ap accepted (sym e ∙ ap outcomeAnswer q)
@@ -49,7 +53,8 @@ pub done-none : (o : Outcome) (ts : List Test) → T (numbered ts) → o ≡ Don
 done-none o ts t q e = none-first ts t (eqb-true (first ts .number) 0 (done-accepted o (first ts) q e))
 
 -- a stage that refuses answers for all
-pub stage-hit : (o : Outcome) (x : Refusal) (ts us : List Test) → o ≡ Refused x → outcomeAnswer o ≡ first ts → outcomeAnswer o ≡ first (ts ++ us)
+pub stage-hit : (o : Outcome) (x : Refusal) (ts us : List Test) → o ≡ Refused x → outcomeAnswer o ≡ first ts
+    → outcomeAnswer o ≡ first (ts ++ us)
 stage-hit o x ts us q e =
     let p : 0 < first ts .number = subst (λ (a : Answer). 0 < a .number) (sym (ap outcomeAnswer q) ∙ e) (refused-positive x) in
     e ∙ sym (first-left ts us p)

@@ -56,13 +56,15 @@ one-shifted k h = shl-exact 1 k 64 (omega arith) (omega arith) ∙ one-mul (2 ^ 
 pub number-append : (a b : List Bool) → numberOf (a ++ b) ≡ numberOf a + 2 ^ length a * numberOf b
 unfolding numberOf
 number-append [] b = omega arith
-number-append (x ∷ a) b = omega (arith, number-append a b, ap (λ (y : ℕ). y * numberOf b) (pow-succ' 2 (length a)) ∙ mul-assoc 2 (2 ^ length a) (numberOf b))
+number-append (x ∷ a) b =
+    omega (arith, number-append a b, ap (λ (y : ℕ). y * numberOf b) (pow-succ' 2 (length a)) ∙ mul-assoc 2 (2 ^ length a) (numberOf b))
 
 numberOf-snoc : (bs : List Bool) (b : Bool) → numberOf (bs ++ (b ∷ [])) ≡ numberOf bs + weight b * 2 ^ length bs
 unfolding numberOf
 numberOf-snoc bs b =
     let z : weight b + 2 * 0 ≡ weight b = omega arith in
-    number-append bs (b ∷ []) ∙ ap (λ (x : ℕ). numberOf bs + 2 ^ length bs * x) z ∙ ap (λ (x : ℕ). numberOf bs + x) (mul-comm (2 ^ length bs) (weight b))
+    number-append bs (b ∷ []) ∙ ap (λ (x : ℕ). numberOf bs + 2 ^ length bs * x) z
+    ∙ ap (λ (x : ℕ). numberOf bs + x) (mul-comm (2 ^ length bs) (weight b))
 
 -- a number that holds the n bits bs
 pub record Held (bs : List Bool) (w n : ℕ) : Type 0 where
@@ -77,7 +79,8 @@ pub held-none : Held [] 0 0
 unfolding numberOf
 held-none = held [] 0 0 refl refl
 
-pub held-more : {bs bs′ : List Bool} {w w′ n : ℕ} (b : Bool) → Held bs w n → w′ ≡ w + weight b * 2 ^ n → bs′ ≡ bs ++ (b ∷ []) → Held bs′ w′ (n + 1)
+pub held-more : {bs bs′ : List Bool} {w w′ n : ℕ} (b : Bool) → Held bs w n → w′ ≡ w + weight b * 2 ^ n → bs′ ≡ bs ++ (b ∷ [])
+    → Held bs′ w′ (n + 1)
 held-more {bs} {bs′} {w} {w′} {n} b k e q =
     held bs′ w′ (n + 1) (ap length q ∙ length-append bs (b ∷ []) ∙ ap (λ (x : ℕ). x + 1) (k .long))
     (e ∙ ap₂ (λ (x y : ℕ). x + weight b * 2 ^ y) (k .value) (sym (k .long)) ∙ sym (ap numberOf q ∙ numberOf-snoc bs b))

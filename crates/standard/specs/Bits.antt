@@ -1,4 +1,5 @@
--- Document 01, 'Bits, octets and the record': bits of numbers and of bytes. A bit string is a function of the bit's number, or a list, bit 0 first. Assumes nothing.
+-- Document 01, 'Bits, octets and the record': bits of numbers and of bytes. A bit string is a function of the bit's number, or a list, bit
+-- 0 first. Assumes nothing.
 use Prim.Native.Nat.{ℕ, zero, suc, _+_, _*_, _/_, _%_, _^_}
 use mathlib.Core.Bool.{Bool, true, false, not}
 use mathlib.Core.List.{List, [], _∷_}

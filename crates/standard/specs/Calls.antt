@@ -74,7 +74,8 @@ sendCall r l n bs os = record { cp = r; law = l; frames = n; bytes = bs; octets 
 
 unfoldable pub sendRefusal : LineState → SendCall → Answer
 sendRefusal st c =
-    first (frameTests (c .cp) st (c .frames) (shorter (c .bytes) (bytesFor (dataBits (c .cp) (c .frames)))) (shorter (c .octets) (6 * c .frames)))
+    first (frameTests (c .cp) st (c .frames) (shorter (c .bytes) (bytesFor (dataBits (c .cp) (c .frames))))
+    (shorter (c .octets) (6 * c .frames)))
 
 -- 'The sender reads N × D data bits, ignoring bits past them'
 unfoldable pub sendBits : SendCall → List Bool

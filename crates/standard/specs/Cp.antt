@@ -22,13 +22,45 @@ cpLength g = (289 + gamma g + 5) / 6 * 6
 abbrev pub cpByteCount : ℕ → ℕ
 cpByteCount g = bytesFor (cpLength g)
 
--- 'Indices stand at 103, 107, 111, 115, 120 and 124, four bits each.'
-abbrev pub indexPlaces : List ℕ
-indexPlaces = 103 ∷ 107 ∷ 111 ∷ 115 ∷ 120 ∷ 124 ∷ []
+-- ---- the table of fields, by which a CP is read and written
+
+-- where a field stands: its first bit's number, and how many bits it has
+pub record Place : Type 0 where
+  pub at : ℕ
+  pub width : ℕ
+
+abbrev pub place : ℕ → ℕ → Place
+place p k = record { at = p; width = k }
+
+-- 'Bits 0 to 16 are seventeen ones.'
+abbrev pub syncPlace : Place
+syncPlace = place 0 17
+
+-- 'Bit 18 is granted, 20:24 drn, 33 acknowledge.'
+abbrev pub grantedPlace : Place
+grantedPlace = place 18 1
+
+abbrev pub drnPlace : Place
+drnPlace = place 20 5
+
+abbrev pub acknowledgePlace : Place
+acknowledgePlace = place 33 1
+
+-- bit 19, in which 'the writer puts 1'
+abbrev pub setPlace : Place
+setPlace = place 19 1
+
+-- 'Indices stand at 103, 107, 111, 115, 120 and 124, four bits each.' That of interval i
+abbrev pub indexPlace : ℕ → Place
+indexPlace i = place (getD (103 ∷ 107 ∷ 111 ∷ 115 ∷ 120 ∷ 124 ∷ []) i 0) 4
 
 -- 'Mask m has its eight runs of 16 at 137 + 136 × m + 17 × c, for c from 0 to 7.'
 abbrev pub runPlace : ℕ → ℕ → ℕ
 runPlace m c = 137 + 136 * m + 17 * c
+
+-- 'The CRC fills 273 + γ to 288 + γ.'
+abbrev pub crcPlace : ℕ → Place
+crcPlace g = place (273 + gamma g) 16
 
 -- ---- writing
 
@@ -41,6 +73,9 @@ pub record Field : Type 0 where
 abbrev pub put : ℕ → ℕ → ℕ → Field
 put p k v = record { at = p; width = k; value = v }
 
+abbrev pub filled : Place → ℕ → Field
+filled p v = put (p .at) (p .width) v
+
 abbrev pub covers : Field → ℕ → Bool
 covers x n = leb (x .at) n && ltb n (x .at + x .width)
 
@@ -49,20 +84,20 @@ unfoldable pub bitIn : List Field → ℕ → Bool
 bitIn [] n = false
 bitIn (x ∷ xs) n = cond (covers x n) (bit (x .value) (n - x .at)) (bitIn xs n)
 
--- 'Bits 0 to 16 are seventeen ones.' 'Bit 18 is granted, 20:24 drn, 33 acknowledge.' 'The writer puts 1 in bit 19'
+-- the fields before the masks
 unfoldable pub headFields : Record → List Field
 headFields r =
-    put 0 17 0x1ffff ∷
-    put 18 1 (weight (r .granted)) ∷
-    put 19 1 1 ∷
-    put 20 5 (r .drn) ∷
-    put 33 1 (weight (r .acknowledge)) ∷
-    put 103 4 (indexOf r 0) ∷
-    put 107 4 (indexOf r 1) ∷
-    put 111 4 (indexOf r 2) ∷
-    put 115 4 (indexOf r 3) ∷
-    put 120 4 (indexOf r 4) ∷
-    put 124 4 (indexOf r 5) ∷
+    filled syncPlace 0x1ffff ∷
+    filled grantedPlace (weight (r .granted)) ∷
+    filled setPlace 1 ∷
+    filled drnPlace (r .drn) ∷
+    filled acknowledgePlace (weight (r .acknowledge)) ∷
+    filled (indexPlace 0) (indexOf r 0) ∷
+    filled (indexPlace 1) (indexOf r 1) ∷
+    filled (indexPlace 2) (indexOf r 2) ∷
+    filled (indexPlace 3) (indexOf r 3) ∷
+    filled (indexPlace 4) (indexOf r 4) ∷
+    filled (indexPlace 5) (indexOf r 5) ∷
     []
 
 -- run c of mask m has its Ucodes 16 c to 16 c + 15
@@ -77,9 +112,9 @@ maskFields r = listFrom (λ k. maskRun r (k / 8) (k % 8)) 0 (8 * (topIndex r + 1
 unfoldable pub cpBody : Record → List Field
 cpBody r = headFields r ++ maskFields r
 
--- 'The CRC fills 273 + γ to 288 + γ.' 'takes bits 18 to 271 + γ'
+-- 'takes bits 18 to 271 + γ'
 unfoldable pub crcField : Record → Field
-crcField r = let g = topIndex r in put (273 + gamma g) 16 (crcBelow (bitIn (cpBody r)) (272 + gamma g))
+crcField r = let g = topIndex r in filled (crcPlace g) (crcBelow (bitIn (cpBody r)) (272 + gamma g))
 
 -- start bits, bits 30:32 and 128, 'all reserved, fill and last-byte padding bits' are 0
 unfoldable pub cpBit : Record → ℕ → Bool
@@ -90,9 +125,13 @@ cpBytes r = bytesOf (cpByteCount (topIndex r)) (cpBit r)
 
 -- ---- reading
 
+-- the number that stands in a place
+abbrev pub numberIn : (ℕ → Bool) → Place → ℕ
+numberIn f p = field f (p .at) (p .width)
+
 -- the index of interval i
 abbrev pub indexIn : (ℕ → Bool) → ℕ → ℕ
-indexIn f i = field f (getD indexPlaces i 0) 4
+indexIn f i = numberIn f (indexPlace i)
 
 -- bit u of mask m
 unfoldable pub maskBitIn : (ℕ → Bool) → ℕ → ℕ → Bool
@@ -105,16 +144,16 @@ halfIn f g h = cond (leb (h / 2) g) (field (maskBitIn f (h / 2)) (64 * (h % 2)) 
 unfoldable pub recordIn : (ℕ → Bool) → Record
 recordIn f =
     record {
-      granted = f 18;
-      drn = field f 20 5;
-      acknowledge = f 33;
+      granted = f (grantedPlace .at);
+      drn = numberIn f drnPlace;
+      acknowledge = f (acknowledgePlace .at);
       index = listFrom (indexIn f) 0 6;
       mask = listFrom (halfIn f (largest (indexIn f) 6)) 0 12;
     }
 
 -- the register's CRC, and the one that was sent, lowest bit first
 unfoldable pub crcMatches : (ℕ → Bool) → ℕ → Bool
-crcMatches f g = eqb (crcBelow f (272 + gamma g)) (field f (273 + gamma g) 16)
+crcMatches f g = eqb (crcBelow f (272 + gamma g)) (numberIn f (crcPlace g))
 
 -- 'Every bit whose number is a multiple of 17, from 17 to 272 + γ, is a zero start bit.' One of them is 1
 unfoldable pub startBitSet : (ℕ → Bool) → ℕ → Bool

@@ -1,4 +1,5 @@
--- Document 01, 'Bits, octets and the record': 'The record holds a granted bit, the rate number drn, an acknowledge bit, six interval indices and six 128-bit masks.' Assumes nothing.
+-- Document 01, 'Bits, octets and the record': 'The record holds a granted bit, the rate number drn, an acknowledge bit, six interval
+-- indices and six 128-bit masks.' Assumes nothing.
 use Prim.Native.Nat.{ℕ, _+_, _*_, _/_, _%_}
 use mathlib.Core.Bool.{Bool, false}
 use lib.ListN.{getD, replicate}

@@ -17,7 +17,10 @@ use Rattle.standard.specs.declared.Outcome.{Outcome}
 use Rattle.standard.specs.declared.Outcome.the-variants.{Done, Refused}
 use Rattle.standard.specs.declared.Record.{Record}
 use Rattle.standard.specs.declared.Refusal.{Refusal}
-use Rattle.standard.specs.declared.Refusal.the-variants.{CountExceedsBytes, CountTooSmall, SyncBroken, IndexTooLarge, LengthWrong, StartBitSet, CrcMismatch, FixedBitWrong, DrnTooLarge, GrantedBelowFullRate, ProductTooSmall, MaskAboveIndices, FramesAtCleardown, HistoryTooLarge, TooManyFrames, InputTooShort, OutputTooShort, IntervalEmpty}
+use Rattle.standard.specs.declared.Refusal.the-variants.{CountExceedsBytes, CountTooSmall, SyncBroken, IndexTooLarge, LengthWrong}
+use Rattle.standard.specs.declared.Refusal.the-variants.{StartBitSet, CrcMismatch, FixedBitWrong, DrnTooLarge, GrantedBelowFullRate}
+use Rattle.standard.specs.declared.Refusal.the-variants.{ProductTooSmall, MaskAboveIndices, FramesAtCleardown, HistoryTooLarge}
+use Rattle.standard.specs.declared.Refusal.the-variants.{TooManyFrames, InputTooShort, OutputTooShort, IntervalEmpty}
 
 -- 'A refusal carries its number'; 25 carries the interval too
 abbrev pub refusalAnswer : Refusal → Answer

@@ -37,9 +37,11 @@ module _ (c h h′ : ℕ) (g g′ : Bool) (e : Close c h h′) (q : (c ≡ 24) �
   unfolding descramble
   taken-bits ds p l = go (scramble h ds) q ∙ ap (λ (x : List Bool). getD x p false) (descramble-scramble h ds)
     where
-      first : (s : Bool) (ss : List Bool) (i : ℕ) → 24 ≤ i → getD (descramble h′ ((s ⊕ g ⊕ g′) ∷ ss)) i false ≡ getD (descramble h (s ∷ ss)) i false
+      first : (s : Bool) (ss : List Bool) (i : ℕ) → 24 ≤ i → getD (descramble h′ ((s ⊕ g ⊕ g′) ∷ ss)) i false
+          ≡ getD (descramble h (s ∷ ss)) i false
       first s ss zero k = absurd (not-suc-le-zero k)
-      first s ss (suc i) k = same-past 23 (push h′ (s ⊕ g ⊕ g′)) (push h s) ss i (any-close 23 (push h′ (s ⊕ g ⊕ g′)) (push h s) (omega arith)) (omega arith)
+      first s ss (suc i) k =
+          same-past 23 (push h′ (s ⊕ g ⊕ g′)) (push h s) ss i (any-close 23 (push h′ (s ⊕ g ⊕ g′)) (push h s) (omega arith)) (omega arith)
 
       go : (ss : List Bool) → (c ≡ 24) ⊎ (g ≡ g′) → getD (descramble h′ (taken g g′ ss)) p false ≡ getD (descramble h ss) p false
       go ss (inr k) = rw (← k, taken-same) (sym (same-past c h h′ ss p e l))
@@ -68,11 +70,13 @@ module _ (r : Record) (l : Law) (holds : Holds r) (c : ℕ) (s t : LineState) (d
   unfolding sendNext lineBits receiveNext
   link-near =
       record {
-        history = rw (sent-heard r l holds s ds fit (t .sign)) (taken-close c (s .history) (t .history) (s .sign) (t .sign) (n .history) (n .sign) ds);
+        history = rw (sent-heard r l holds s ds fit (t .sign))
+            (taken-close c (s .history) (t .history) (s .sign) (t .sign) (n .history) (n .sign) ds);
         sign = inr (sym (sent-sign r l holds s ds fit t));
       }
 
-pub link : (r : Record) (l : Law) → Holds r → Link (sendFrame r l) sendNext (λ f. f) (receiveFrame r l) (receiveNext r l) (λ s f. length f ≡ D r) Near
+pub link : (r : Record) (l : Law) → Holds r → Link (sendFrame r l) sendNext (λ f. f) (receiveFrame r l) (receiveNext r l)
+    (λ s f. length f ≡ D r) Near
 link r l holds =
     record {
       long = λ c s t f y e n. length-receiveFrame r l t y ∙ sym e;

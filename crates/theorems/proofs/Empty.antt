@@ -12,7 +12,8 @@ use Rattle.standard.specs.Bits.{bitAt}
 use Rattle.standard.specs.Record.{inMask}
 use Rattle.standard.specs.Cp.{recordIn}
 use Rattle.standard.specs.Constellation.{sizeOf, member}
-use Rattle.standard.specs.Refusals.{indexTooLarge, grantedBelowFullRate, intervalEmpty, productTooSmall, maskAboveIndices, emptyTest, emptyTests, rateTests, recordTests, readTests, writeTests, lineTests, bufferTests, frameTests}
+use Rattle.standard.specs.Refusals.{indexTooLarge, grantedBelowFullRate, intervalEmpty, productTooSmall, maskAboveIndices, emptyTest}
+use Rattle.standard.specs.Refusals.{emptyTests, rateTests, recordTests, readTests, writeTests, lineTests, bufferTests, frameTests}
 use Rattle.standard.specs.declared.LineState.{LineState}
 use Rattle.standard.specs.declared.Record.{Record}
 use Rattle.standard.proofs.Refusals.{empty-too-small, empty-lowest}
@@ -43,7 +44,8 @@ module _ (r : Record) (after : List Test) where
   empty-kept i zero h = inl refl
   empty-kept i (suc n) h = go (intervalEmpty r i) refl (empty-kept (suc i) n (omega arith))
     where
-      go : (b : Bool) → intervalEmpty r i ≡ b → Told (listFrom (emptyTest r) (suc i) n ++ tail) tail → Told (listFrom (emptyTest r) i (suc n) ++ tail) tail
+      go : (b : Bool) → intervalEmpty r i ≡ b → Told (listFrom (emptyTest r) (suc i) n ++ tail) tail
+          → Told (listFrom (emptyTest r) i (suc n) ++ tail) tail
       go true e d = inr (rw e, rw (empty-too-small r i (omega arith) e))
       go false e d = rw e d
 
@@ -59,7 +61,8 @@ record-kept r after = kept _ _ _ (rates-kept r (test 12 (maskAboveIndices r) ∷
 
 reads : (s : List ℕ) (n : ℕ) → InPlaceOf11 (readTests s n)
 unfolding readTests rateTests emptyTests emptyTest without listFrom
-reads s n = kept _ _ _ (kept _ _ _ (kept _ _ _ (kept _ _ _ (kept _ _ _ (kept _ _ _ (kept _ _ _ (kept _ _ _ (rates-kept (recordIn (bitAt s)) []))))))))
+reads s n = kept _ _ _
+    (kept _ _ _ (kept _ _ _ (kept _ _ _ (kept _ _ _ (kept _ _ _ (kept _ _ _ (kept _ _ _ (rates-kept (recordIn (bitAt s)) []))))))))
 
 writes : (r : Record) (writeShort : Bool) → InPlaceOf11 (writeTests r writeShort)
 unfolding writeTests recordTests rateTests emptyTests emptyTest without listFrom

@@ -46,25 +46,30 @@ two x X g G p e a b = go (decLe (length g) p)
         List·getD-append x X false p (omega arith) ∙ a h ∙ sym (List·getD-append g G false p h)
 
 -- a sender's frame f and a receiver's frame y. Near c: the two states agree but for c doubtful bits
-pub record Link {S T F Y : Type 0} (send : S → F → Y) (sendNext : S → F → S) (given : F → List Bool) (hear : T → Y → List Bool) (hearNext : T → Y → T)
+pub record Link {S T F Y : Type 0} (send : S → F → Y) (sendNext : S → F → S) (given : F → List Bool) (hear : T → Y → List Bool)
+    (hearNext : T → Y → T)
     (Fit : S → F → Type 0) (Near : ℕ → S → T → Type 0) : Type 0 where
   pub long : (c : ℕ) (s : S) (t : T) (f : F) (y : Y) → Fit s f → Near c s t → length (hear t y) ≡ length (given f)
-  pub bits : (c : ℕ) (s : S) (t : T) (f : F) → Fit s f → Near c s t → (p : ℕ) → c ≤ p → getD (hear t (send s f)) p false ≡ getD (given f) p false
+  pub bits : (c : ℕ) (s : S) (t : T) (f : F) → Fit s f → Near c s t → (p : ℕ) → c ≤ p
+      → getD (hear t (send s f)) p false ≡ getD (given f) p false
   pub nearer : (c : ℕ) (s : S) (t : T) (f : F) → Fit s f → Near c s t → Near (c - length (given f)) (sendNext s f) (hearNext t (send s f))
 
 -- 24 doubtful bits are all that any damage leaves
-pub record Mends {S T F Y : Type 0} (sendNext : S → F → S) (hearNext : T → Y → T) (Fit : S → F → Type 0) (Near : ℕ → S → T → Type 0) : Type 0 where
+pub record Mends {S T F Y : Type 0} (sendNext : S → F → S) (hearNext : T → Y → T) (Fit : S → F → Type 0)
+    (Near : ℕ → S → T → Type 0) : Type 0 where
   pub lose : (c : ℕ) (s : S) (t : T) (f : F) (y : Y) → Fit s f → Near c s t → Near 24 (sendNext s f) (hearNext t y)
   pub doubt : (c : ℕ) (s : S) (t : T) → Near c s t → Near 24 s t
 
-module _ {S T F Y : Type 0} {send : S → F → Y} {sendNext : S → F → S} {given : F → List Bool} {hear : T → Y → List Bool} {hearNext : T → Y → T}
+module _ {S T F Y : Type 0} {send : S → F → Y} {sendNext : S → F → S} {given : F → List Bool} {hear : T → Y → List Bool}
+    {hearNext : T → Y → T}
     {Fit : S → F → Type 0} {Near : ℕ → S → T → Type 0} (link : Link send sendNext given hear hearNext Fit Near) (y₀ : Y) where
   -- frame i was left alone
   abbrev Left : S → List F → List Y → ℕ → Type 0
   Left s fs ys i = getD ys i y₀ ≡ getD (each send sendNext s fs) i y₀
 
   -- up to frame a all were left alone
-  pub before : (a c : ℕ) (s : S) (t : T) (fs : List F) (ys : List Y) → Near c s t → Fits sendNext Fit s fs → length ys ≤ length fs → a ≤ length ys
+  pub before : (a c : ℕ) (s : S) (t : T) (fs : List F) (ys : List Y) → Near c s t → Fits sendNext Fit s fs → length ys ≤ length fs
+      → a ≤ length ys
       → ((i : ℕ) → i < a → Left s fs ys i) → (p : ℕ) → p < start given a fs → c ≤ p
       → getD (joined (each hear hearNext t ys)) p false ≡ getD (joined (map given fs)) p false
   unfolding joined each start
@@ -73,29 +78,36 @@ module _ {S T F Y : Type 0} {send : S → F → Y} {sendNext : S → F → S} {g
   before (suc a) c s t [] (y ∷ ys) n k w le o p h l = absurd (not-suc-le-zero w)
   before (suc a) c s t (f ∷ fs) (y ∷ ys) n k w le o p h l =
       let e : y ≡ send s f = o 0 (omega arith) in
-      let rest = before a (c - length (given f)) (sendNext s f) (hearNext t y) fs ys (rw e (link .nearer c s t f (k .0) n)) (k .1) (omega arith) (omega arith) (λ i q. o (suc i) (omega arith)) (p - length (given f)) in
+      let rest = before a (c - length (given f)) (sendNext s f) (hearNext t y) fs ys (rw e (link .nearer c s t f (k .0) n)) (k .1)
+      (omega arith) (omega arith) (λ i q. o (suc i) (omega arith)) (p - length (given f)) in
       two (hear t y) (joined (each hear hearNext (hearNext t y) ys)) (given f) (joined (map given fs)) p (link .long c s t f y (k .0) n)
       (λ q. rw e (link .bits c s t f (k .0) n p l)) (λ q. rest (omega arith) (omega arith))
 
   -- from frame q on all were left alone
-  pub beyond : Mends sendNext hearNext Fit Near → (q c : ℕ) (s : S) (t : T) (fs : List F) (ys : List Y) → Near c s t → Fits sendNext Fit s fs → length ys ≤ length fs
+  pub beyond : Mends sendNext hearNext Fit Near → (q c : ℕ) (s : S) (t : T) (fs : List F) (ys : List Y) → Near c s t
+      → Fits sendNext Fit s fs → length ys ≤ length fs
       → ((i : ℕ) → q ≤ i → i < length ys → Left s fs ys i) → (p : ℕ) → p < start given (length ys) fs → start given q fs + 24 ≤ p
       → getD (joined (each hear hearNext t ys)) p false ≡ getD (joined (map given fs)) p false
   unfolding joined each start
-  beyond mends zero c s t fs ys n k w o p h l = before (length ys) 24 s t fs ys (mends .doubt c s t n) k w (omega arith) (λ i q. o i (omega arith) q) p h (omega arith)
+  beyond mends zero c s t fs ys n k w o p h l =
+      before (length ys) 24 s t fs ys (mends .doubt c s t n) k w (omega arith) (λ i q. o i (omega arith) q) p h (omega arith)
   beyond mends (suc q) c s t fs [] n k w o p h l = absurd (not-suc-le-zero h)
   beyond mends (suc q) c s t [] (y ∷ ys) n k w o p h l = absurd (not-suc-le-zero w)
   beyond mends (suc q) c s t (f ∷ fs) (y ∷ ys) n k w o p h l =
-      let rest = beyond mends q 24 (sendNext s f) (hearNext t y) fs ys (mends .lose c s t f y (k .0) n) (k .1) (omega arith) (λ i a b. o (suc i) (omega arith) (omega arith)) (p - length (given f)) in
+      let rest = beyond mends q 24 (sendNext s f) (hearNext t y) fs ys (mends .lose c s t f y (k .0) n) (k .1) (omega arith)
+      (λ i a b. o (suc i) (omega arith) (omega arith)) (p - length (given f)) in
       two (hear t y) (joined (each hear hearNext (hearNext t y) ys)) (given f) (joined (map given fs)) p (link .long c s t f y (k .0) n)
       (λ z. absurd (omega arith)) (λ z. rest (omega arith) (omega arith))
 
   -- the line alters no frames but those in its damage
-  pub past-damage : Mends sendNext hearNext Fit Near → (w : Damage) (c : ℕ) (s : S) (t : T) (fs : List F) (ys : List Y) → Near c s t → Fits sendNext Fit s fs → length ys ≤ length fs
-      → ((i : ℕ) → i < length ys → Outside w i → Left s fs ys i) → (p : ℕ) → p < start given (length ys) fs → Beyond w (λ i. start given i fs) p → c ≤ p
+  pub past-damage : Mends sendNext hearNext Fit Near → (w : Damage) (c : ℕ) (s : S) (t : T) (fs : List F) (ys : List Y) → Near c s t
+      → Fits sendNext Fit s fs → length ys ≤ length fs
+      → ((i : ℕ) → i < length ys → Outside w i → Left s fs ys i) → (p : ℕ) → p < start given (length ys) fs
+      → Beyond w (λ i. start given i fs) p → c ≤ p
       → getD (joined (each hear hearNext t ys)) p false ≡ getD (joined (map given fs)) p false
   past-damage mends clean c s t fs ys n k w o p h b l = before (length ys) c s t fs ys n k w (omega arith) (λ i q. o i q tt) p h l
-  past-damage mends (frames x y) c s t fs ys n k w o p h (inr b) l = beyond mends (y + 1) c s t fs ys n k w (λ i q z. o i z (inr (omega arith))) p h b
+  past-damage mends (frames x y) c s t fs ys n k w o p h (inr b) l =
+      beyond mends (y + 1) c s t fs ys n k w (λ i q z. o i z (inr (omega arith))) p h b
   past-damage mends (frames x y) c s t fs ys n k w o p h (inl b) l = go (decLe x (length ys))
     where
       go : Dec (x ≤ length ys) → getD (joined (each hear hearNext t ys)) p false ≡ getD (joined (map given fs)) p false

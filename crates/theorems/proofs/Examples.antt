@@ -11,14 +11,19 @@ use Rattle.standard.specs.First.{valued, first}
 use Rattle.standard.specs.Bits.{bitAt, bitsIn, field, bytesOf, nth, numberOf, bitsOf}
 use Rattle.standard.specs.Record.{K, topIndex, inMask}
 use Rattle.standard.specs.Crc.{crcStep, crcBelow}
-use Rattle.standard.specs.Cp.{bitIn, headFields, maskFields, cpBody, crcField, cpBit, cpBytes, maskBitIn, halfIn, recordIn, crcMatches, startBitSet}
+use Rattle.standard.specs.Cp.{bitIn, headFields, maskFields, cpBody, crcField, cpBit, cpBytes, maskBitIn, halfIn, recordIn, crcMatches}
+use Rattle.standard.specs.Cp.{startBitSet}
 use Rattle.standard.specs.Scrambler.{taps, push, pushAll, scramble, descramble}
 use Rattle.standard.specs.Constellation.{sizeOf, labelOf, pointOf, member, size, label, sizes}
 use Rattle.standard.specs.Modulus.{product, labels, number}
 use Rattle.standard.specs.Signs.{signsOf, signBits}
 use Rattle.standard.specs.Octets.{positiveOctet, octet, signOf, ucodeOf}
-use Rattle.standard.specs.Frame.{fresh, ucodeAt, lineBits, frameSigns, frameLabels, frameOctets, sendFrame, sendNext, receivedNumber, outsideTest, outsideTests, markTests, mark, heardBits, receiveFrame, receiveNext, sendFrames, sendAfter, receiveFrames, receiveMarks, receiveAfter}
-use Rattle.standard.specs.Refusals.{countExceedsBytes, countTooSmall, syncBroken, indexTooLarge, lengthWrong, fixedBitWrong, drnTooLarge, grantedBelowFullRate, intervalEmpty, productTooSmall, maskAboveIndices, emptyTest, emptyTests, rateTests, recordTests, readTests}
+use Rattle.standard.specs.Frame.{fresh, ucodeAt, lineBits, frameSigns, frameLabels, frameOctets, sendFrame, sendNext, receivedNumber}
+use Rattle.standard.specs.Frame.{outsideTest, outsideTests, markTests, mark, heardBits, receiveFrame, receiveNext, sendFrames, sendAfter}
+use Rattle.standard.specs.Frame.{receiveFrames, receiveMarks, receiveAfter}
+use Rattle.standard.specs.Refusals.{countExceedsBytes, countTooSmall, syncBroken, indexTooLarge, lengthWrong, fixedBitWrong, drnTooLarge}
+use Rattle.standard.specs.Refusals.{grantedBelowFullRate, intervalEmpty, productTooSmall, maskAboveIndices, emptyTest, emptyTests}
+use Rattle.standard.specs.Refusals.{rateTests, recordTests, readTests}
 use Rattle.standard.specs.Calls.{readRefusal}
 use Rattle.standard.specs.declared.Law.{Law}
 use Rattle.standard.proofs.Lists.{every, every-at, T→true}
@@ -29,7 +34,13 @@ use Rattle.standard.proofs.Frame.{mark-zero}
 use Rattle.theorems.specs.Examples.{all, table, full, emptyTwice, ExamplesHold}
 
 rows-hold : all table ≡ true
-unfolding table listFrom any largest parts joined each after first bitAt bitsIn field bytesOf nth numberOf bitsOf topIndex inMask crcStep crcBelow bitIn headFields maskFields cpBody crcField cpBit cpBytes maskBitIn halfIn recordIn crcMatches startBitSet taps push pushAll scramble descramble sizeOf labelOf pointOf member sizes product labels number signsOf signBits positiveOctet octet signOf ucodeOf fresh lineBits frameSigns frameLabels frameOctets sendFrame sendNext receivedNumber outsideTest outsideTests markTests mark heardBits receiveFrame receiveNext sendFrames sendAfter receiveFrames receiveMarks receiveAfter countExceedsBytes countTooSmall syncBroken indexTooLarge lengthWrong fixedBitWrong drnTooLarge grantedBelowFullRate intervalEmpty productTooSmall maskAboveIndices emptyTest emptyTests rateTests recordTests readTests readRefusal
+unfolding table listFrom any largest parts joined each after first bitAt bitsIn field bytesOf nth numberOf bitsOf topIndex inMask crcStep
+    crcBelow bitIn headFields maskFields cpBody crcField cpBit cpBytes maskBitIn halfIn recordIn crcMatches startBitSet taps push pushAll
+    scramble descramble sizeOf labelOf pointOf member sizes product labels number signsOf signBits positiveOctet octet signOf ucodeOf fresh
+    lineBits frameSigns frameLabels frameOctets sendFrame sendNext receivedNumber outsideTest outsideTests markTests mark heardBits
+    receiveFrame receiveNext sendFrames sendAfter receiveFrames receiveMarks receiveAfter countExceedsBytes countTooSmall syncBroken
+    indexTooLarge lengthWrong fixedBitWrong drnTooLarge grantedBelowFullRate intervalEmpty productTooSmall maskAboveIndices emptyTest
+    emptyTests rateTests recordTests readTests readRefusal
 rows-hold = refl
 
 -- ---- B10: with full masks every Ucode belongs, and the labels of any six form a number below 2^42
@@ -51,10 +62,13 @@ never l os =
     mark-zero full l os (λ i h. belong i (ucodeAt l os i) h (ucode-lt l _))
     (rw (← product-full)
     (number-lt (sizes full) (listFrom (λ i. label full i (ucodeAt l os i)) 0 6)
-    (within-listFrom (size full) (λ i. label full i (ucodeAt l os i)) 0 6 (λ i a b. label-below (member full i) 128 (ucodeAt l os i) (ucode-lt l _) (belong i (ucodeAt l os i) (omega arith) (ucode-lt l _))))))
+    (within-listFrom (size full) (λ i. label full i (ucodeAt l os i)) 0 6
+    (λ i a b. label-below (member full i) 128 (ucodeAt l os i) (ucode-lt l _)
+    (belong i (ucodeAt l os i) (omega arith) (ucode-lt l _))))))
 
 lowest-empty : first (recordTests emptyTwice) ≡ valued 25 2
-unfolding first recordTests rateTests emptyTests emptyTest indexTooLarge drnTooLarge grantedBelowFullRate intervalEmpty any listFrom sizeOf member inMask
+unfolding first recordTests rateTests emptyTests emptyTest indexTooLarge drnTooLarge grantedBelowFullRate intervalEmpty any listFrom sizeOf
+    member inMask
 lowest-empty = refl
 
 pub examples : ExamplesHold

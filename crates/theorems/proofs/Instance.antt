@@ -1,4 +1,5 @@
--- An instance of demand 3's premises: refused calls between accepted ones, damage, a receiver in another state, lists cut differently. Assumes nothing.
+-- An instance of demand 3's premises: refused calls between accepted ones, damage, a receiver in another state, lists cut differently.
+-- Assumes nothing.
 use mathlib.Core.Path.{_≡_, refl, sym, ap, _∙_}
 use mathlib.Core.Logic.{_⊎_, inl, inr}
 use Prim.Native.Nat.{ℕ, zero, suc, _+_, _*_, _<_}
@@ -17,12 +18,18 @@ use Rattle.standard.specs.Constellation.{sizeOf, labelOf, pointOf, member, size
 use Rattle.standard.specs.Modulus.{product, labels, number}
 use Rattle.standard.specs.Signs.{signsOf, signBits}
 use Rattle.standard.specs.Octets.{positiveOctet, octet, signOf, ucodeOf}
-use Rattle.standard.specs.Frame.{fresh, lineBits, frameSigns, frameLabels, frameOctets, sendFrame, sendNext, receivedNumber, outsideTest, outsideTests, markTests, mark, heardBits, receiveFrame, receiveNext, sendFrames, sendAfter, receiveFrames, receiveMarks, receiveAfter}
-use Rattle.standard.specs.Refusals.{indexTooLarge, drnTooLarge, grantedBelowFullRate, intervalEmpty, productTooSmall, maskAboveIndices, framesAtCleardown, historyTooLarge, tooManyFrames, emptyTest, emptyTests, rateTests, recordTests, lineTests, bufferTests, frameTests}
-use Rattle.standard.specs.Calls.{SendCall, sendRefusal, sendBits, sendLeft, sendOctets, ReceiveCall, receiveRefusal, receiveOctets, receiveLeft, receiveBytes, receiveMarked}
+use Rattle.standard.specs.Frame.{fresh, lineBits, frameSigns, frameLabels, frameOctets, sendFrame, sendNext, receivedNumber, outsideTest}
+use Rattle.standard.specs.Frame.{outsideTests, markTests, mark, heardBits, receiveFrame, receiveNext, sendFrames, sendAfter, receiveFrames}
+use Rattle.standard.specs.Frame.{receiveMarks, receiveAfter}
+use Rattle.standard.specs.Refusals.{indexTooLarge, drnTooLarge, grantedBelowFullRate, intervalEmpty, productTooSmall, maskAboveIndices}
+use Rattle.standard.specs.Refusals.{framesAtCleardown, historyTooLarge, tooManyFrames, emptyTest, emptyTests, rateTests, recordTests}
+use Rattle.standard.specs.Refusals.{lineTests, bufferTests, frameTests}
+use Rattle.standard.specs.Calls.{SendCall, sendRefusal, sendBits, sendLeft, sendOctets, ReceiveCall, receiveRefusal, receiveOctets}
+use Rattle.standard.specs.Calls.{receiveLeft, receiveBytes, receiveMarked}
 use Rattle.standard.specs.declared.Law.the-variants.{Mu, A}
 use Rattle.theorems.specs.Examples.{common, full, state}
-use Rattle.theorems.specs.Runs.{overCalls, AllCalls, message, sent, octetsRead, handedOver, marksGiven, SendsWith, ReceivesWith, frames, Carried, Run, Delivered}
+use Rattle.theorems.specs.Runs.{overCalls, AllCalls, message, sent, octetsRead, handedOver, marksGiven, SendsWith, ReceivesWith}
+use Rattle.theorems.specs.Runs.{frames, Carried, Run, Delivered}
 use Rattle.theorems.proofs.Runs.{runs}
 
 abbrev send : ℕ → List ℕ → SendCall
@@ -45,7 +52,8 @@ receive n xs = record { cp = common; law = Mu; frames = n; octets = xs; bytes = 
 
 -- two frames, a call that is refused, one frame
 abbrev receiving : List ReceiveCall
-receiving = receive 2 (take 12 delivered) ∷ record { cp = common; law = A; frames = 5; octets = []; bytes = []; marks = [] } ∷ receive 1 (drop 12 delivered) ∷ []
+receiving = receive 2 (take 12 delivered) ∷ record { cp = common; law = A; frames = 5; octets = []; bytes = []; marks = [] } ∷ receive 1
+    (drop 12 delivered) ∷ []
 
 wrong : false ≡ true → ⊥
 wrong e = let z : _≡_ {A = ℕ} 0 1 = ap weight e in omega arith
@@ -59,8 +67,15 @@ past a b c d e h xs (suc i) k l =
     ap (λ (n : ℕ). getD (a ∷ b ∷ c ∷ d ∷ e ∷ h ∷ drop 6 xs) n 0) z ∙ getD-drop 6 xs (i * 6 + k) 0 ∙ ap (λ (n : ℕ). getD xs n 0) (sym y)
 
 -- all of demand 3's premises; the altered frame gets a mark, the others none
-instance : Run common Mu fresh (state 77 true) sending receiving (frames 0 0) delivered 3 × (marksGiven (state 77 true) receiving ≡ 2 ∷ 0 ∷ 0 ∷ [])
-unfolding listFrom any largest parts joined each after first bitAt bitsIn field bytesOf nth numberOf bitsOf topIndex inMask taps push pushAll scramble descramble sizeOf labelOf pointOf member sizes product labels number signsOf signBits positiveOctet octet signOf ucodeOf fresh lineBits frameSigns frameLabels frameOctets sendFrame sendNext receivedNumber outsideTest outsideTests markTests mark heardBits receiveFrame receiveNext sendFrames sendAfter receiveFrames receiveMarks receiveAfter indexTooLarge drnTooLarge grantedBelowFullRate intervalEmpty productTooSmall maskAboveIndices framesAtCleardown historyTooLarge tooManyFrames emptyTest emptyTests rateTests recordTests lineTests bufferTests frameTests sendRefusal sendBits sendLeft sendOctets receiveRefusal receiveOctets receiveLeft receiveBytes receiveMarked overCalls AllCalls sent octetsRead marksGiven SendsWith ReceivesWith Carried
+instance : Run common Mu fresh (state 77 true) sending receiving (frames 0 0) delivered 3
+    × (marksGiven (state 77 true) receiving ≡ 2 ∷ 0 ∷ 0 ∷ [])
+unfolding listFrom any largest parts joined each after first bitAt bitsIn field bytesOf nth numberOf bitsOf topIndex inMask taps push
+    pushAll scramble descramble sizeOf labelOf pointOf member sizes product labels number signsOf signBits positiveOctet octet signOf
+    ucodeOf fresh lineBits frameSigns frameLabels frameOctets sendFrame sendNext receivedNumber outsideTest outsideTests markTests mark
+    heardBits receiveFrame receiveNext sendFrames sendAfter receiveFrames receiveMarks receiveAfter indexTooLarge drnTooLarge
+    grantedBelowFullRate intervalEmpty productTooSmall maskAboveIndices framesAtCleardown historyTooLarge tooManyFrames emptyTest emptyTests
+    rateTests recordTests lineTests bufferTests frameTests sendRefusal sendBits sendLeft sendOctets receiveRefusal receiveOctets receiveLeft
+    receiveBytes receiveMarked overCalls AllCalls sent octetsRead marksGiven SendsWith ReceivesWith Carried
 instance = (
   record {
     sender = (λ e. (refl, refl), (λ e. (refl, refl), (λ e. absurd (wrong e), (λ e. (refl, refl), tt))));
@@ -77,5 +92,6 @@ instance = (
     later i (inr h) = h
 
 -- and what it concludes
-pub instance-delivered : Delivered common (frames 0 0) fresh (state 77 true) 3 (message fresh sending) (handedOver (state 77 true) receiving) (marksGiven (state 77 true) receiving)
+pub instance-delivered : Delivered common (frames 0 0) fresh (state 77 true) 3 (message fresh sending)
+    (handedOver (state 77 true) receiving) (marksGiven (state 77 true) receiving)
 instance-delivered = runs common Mu fresh (state 77 true) sending receiving (frames 0 0) delivered 3 (instance .0)

@@ -10,7 +10,8 @@ use lib.ListN.{length, length-append}
 use Rattle.standard.specs.Lists.{parts, joined, each, after}
 use Rattle.standard.specs.Bits.{bitsIn}
 use Rattle.standard.specs.Record.{D}
-use Rattle.standard.specs.Frame.{dataBits, sendFrame, sendNext, sendFrames, sendAfter, receiveFrame, receiveNext, mark, receiveFrames, receiveMarks, receiveAfter}
+use Rattle.standard.specs.Frame.{dataBits, sendFrame, sendNext, sendFrames, sendAfter, receiveFrame, receiveNext, mark, receiveFrames}
+use Rattle.standard.specs.Frame.{receiveMarks, receiveAfter}
 use Rattle.standard.specs.Calls.{SendCall, sendBits, sendLeft, ReceiveCall, receiveOctets, receiveLeft, receiveBytes}
 use Rattle.standard.specs.declared.Law.{Law}
 use Rattle.standard.specs.declared.LineState.{LineState}
@@ -18,7 +19,8 @@ use Rattle.standard.specs.declared.Record.{Record}
 use Rattle.standard.proofs.Lists.{Sized, joined-append, sized-parts, joined-parts, length-parts, each-append, each-map}
 use Rattle.standard.proofs.Frame.{Holds}
 use Rattle.standard.proofs.Calls.{Sends, sends-own, Receives, receives-own}
-use Rattle.theorems.specs.Runs.{overCalls, AllCalls, sends, receives, message, sent, octetsRead, handedOver, marksGiven, SendsWith, ReceivesWith}
+use Rattle.theorems.specs.Runs.{overCalls, AllCalls, sends, receives, message, sent, octetsRead, handedOver, marksGiven, SendsWith}
+use Rattle.theorems.specs.Runs.{ReceivesWith}
 use Rattle.theorems.proofs.Ends.{Fits, fits-append}
 
 -- ---- for any calls and frames
@@ -26,8 +28,10 @@ use Rattle.theorems.proofs.Ends.{Fits, fits-append}
 module _ {S C F : Type 0} (accepts : S → C → Bool) (left : S → C → S) (P : C → Type 0) (frames : S → C → List F) (next : S → F → S)
     (refused : (st : S) (c : C) → accepts st c ≡ false → left st c ≡ st)
     (moved : (st : S) (c : C) → accepts st c ≡ true → P c → left st c ≡ after next st (frames st c)) where
-  pub one-run : {X : Type 0} (part : S → C → List X) (out : S → F → List X) → ((st : S) (c : C) → accepts st c ≡ true → P c → part st c ≡ joined (each out next st (frames st c)))
-      → (st : S) (cs : List C) → AllCalls accepts left P st cs → overCalls accepts left part st cs ≡ joined (each out next st (overCalls accepts left frames st cs))
+  pub one-run : {X : Type 0} (part : S → C → List X) (out : S → F → List X)
+      → ((st : S) (c : C) → accepts st c ≡ true → P c → part st c ≡ joined (each out next st (frames st c)))
+      → (st : S) (cs : List C) → AllCalls accepts left P st cs → overCalls accepts left part st cs
+      ≡ joined (each out next st (overCalls accepts left frames st cs))
   unfolding overCalls AllCalls joined each
   one-run part out own st [] w = refl
   one-run {X} part out own st (c ∷ cs) w = go (accepts st c) refl (one-run part out own (left st c) cs (w .1))
@@ -36,10 +40,12 @@ module _ {S C F : Type 0} (accepts : S → C → Bool) (left : S → C → S) (P
       fs = overCalls accepts left frames (left st c) cs
 
       go : (b : Bool) → accepts st c ≡ b → overCalls accepts left part (left st c) cs ≡ joined (each out next (left st c) fs)
-          → cond (accepts st c) (part st c) [] ++ overCalls accepts left part (left st c) cs ≡ joined (each out next st (cond (accepts st c) (frames st c) [] ++ fs))
+          → cond (accepts st c) (part st c) [] ++ overCalls accepts left part (left st c) cs
+          ≡ joined (each out next st (cond (accepts st c) (frames st c) [] ++ fs))
       go true e k =
           rw e (ap₂ _++_ (own st c e (w .0 e)) (k ∙ ap (λ (z : S). joined (each out next z fs)) (moved st c e (w .0 e)))
-          ∙ sym (ap joined (each-append out next st (frames st c) fs) ∙ joined-append (each out next st (frames st c)) (each out next (after next st (frames st c)) fs)))
+          ∙ sym (ap joined (each-append out next st (frames st c) fs) ∙ joined-append (each out next st (frames st c))
+          (each out next (after next st (frames st c)) fs)))
       go false e k = rw e (k ∙ ap (λ (z : S). joined (each out next z fs)) (refused st c e))
 
   pub run-fits : (Fit : S → F → Type 0) → ((st : S) (c : C) → accepts st c ≡ true → P c → Fits next Fit st (frames st c))
@@ -52,7 +58,8 @@ module _ {S C F : Type 0} (accepts : S → C → Bool) (left : S → C → S) (P
       fs = overCalls accepts left frames (left st c) cs
 
       go : (b : Bool) → accepts st c ≡ b → Fits next Fit (left st c) fs → Fits next Fit st (cond (accepts st c) (frames st c) [] ++ fs)
-      go true e k = rw e (fits-append next Fit st (frames st c) fs (own st c e (w .0 e)) (subst (λ (z : S). Fits next Fit z fs) (moved st c e (w .0 e)) k))
+      go true e k = rw e
+          (fits-append next Fit st (frames st c) fs (own st c e (w .0 e)) (subst (λ (z : S). Fits next Fit z fs) (moved st c e (w .0 e)) k))
       go false e k = rw e (subst (λ (z : S). Fits next Fit z fs) (refused st c e) k)
 
   -- what follows from any frame of a call follows from one of the run
@@ -65,7 +72,8 @@ module _ {S C F : Type 0} (accepts : S → C → Bool) (left : S → C → S) (P
       fs : List F
       fs = overCalls accepts left frames (left st c) cs
 
-      some : accepts st c ≡ true → length (frames st c ++ fs) ≡ length (frames st c) + length fs → zero < length (frames st c ++ fs) → (zero < length fs → Q) → (length (frames st c) ≡ zero) ⊎ (zero < length (frames st c)) → Q
+      some : accepts st c ≡ true → length (frames st c ++ fs) ≡ length (frames st c) + length fs → zero < length (frames st c ++ fs)
+          → (zero < length fs → Q) → (length (frames st c) ≡ zero) ⊎ (zero < length (frames st c)) → Q
       some e n h k (inl z) = k (omega arith)
       some e n h k (inr z) = own st c e (w .0 e) z
 
@@ -74,11 +82,13 @@ module _ {S C F : Type 0} (accepts : S → C → Bool) (left : S → C → S) (P
       go false e h k = k (rw e at h)
 
 -- frames of one width fit in any state, and only they
-fits-sized : {S X : Type 0} (next : S → List X → S) (w : ℕ) (st : S) (fs : List (List X)) → Fits next (λ st f. length f ≡ w) st fs → Sized w fs
+fits-sized : {S X : Type 0} (next : S → List X → S) (w : ℕ) (st : S) (fs : List (List X)) → Fits next (λ st f. length f ≡ w) st fs
+    → Sized w fs
 fits-sized next w st [] p = tt
 fits-sized next w st (f ∷ fs) p = (p .0, fits-sized next w (next st f) fs (p .1))
 
-pub sized-fits : {S X : Type 0} (next : S → List X → S) (w : ℕ) (st : S) (fs : List (List X)) → Sized w fs → Fits next (λ st f. length f ≡ w) st fs
+pub sized-fits : {S X : Type 0} (next : S → List X → S) (w : ℕ) (st : S) (fs : List (List X)) → Sized w fs
+    → Fits next (λ st f. length f ≡ w) st fs
 sized-fits next w st [] p = tt
 sized-fits next w st (f ∷ fs) p = (p .0, sized-fits next w (next st f) fs (p .1))
 
@@ -90,7 +100,8 @@ map-whole {X} (f ∷ fs) = ap (λ (r : List (List X)). f ∷ r) (map-whole fs)
 each-whole : {S X : Type 0} (next : S → List X → S) (st : S) (fs : List (List X)) → each (λ z f. f) next st fs ≡ fs
 each-whole next st fs = each-map (λ f. f) next st fs ∙ map-whole fs
 
-whole : {S X : Type 0} (next : S → List X → S) (st : S) (k n : ℕ) (xs : List X) → length xs ≡ n * k → xs ≡ joined (each (λ z f. f) next st (parts k n xs))
+whole : {S X : Type 0} (next : S → List X → S) (st : S) (k n : ℕ) (xs : List X) → length xs ≡ n * k
+    → xs ≡ joined (each (λ z f. f) next st (parts k n xs))
 whole next st k n xs e = sym (ap joined (each-whole next st (parts k n xs)) ∙ joined-parts k n xs e)
 
 -- one element for each frame
@@ -134,12 +145,15 @@ module _ (r : Record) (l : Law) where
         frames = fs;
         sized =
             fits-sized sendNext (D r) st fs (run-fits sends sendLeft With framesOf sendNext refused moved (λ z f. length f ≡ D r)
-            (λ z c e k. sized-fits sendNext (D r) z (framesOf z c) (sized-parts (D r) (c .frames) (sendBits c) (omega (arith, own z c e k .many)))) st cs w);
+            (λ z c e k. sized-fits sendNext (D r) z (framesOf z c)
+            (sized-parts (D r) (c .frames) (sendBits c) (omega (arith, own z c e k .many)))) st cs w);
         message =
-            one-run sends sendLeft With framesOf sendNext refused moved (λ z c. sendBits c) (λ z f. f) (λ z c e k. whole sendNext z (D r) (c .frames) (sendBits c) (own z c e k .many)) st cs w
+            one-run sends sendLeft With framesOf sendNext refused moved (λ z c. sendBits c) (λ z f. f)
+            (λ z c e k. whole sendNext z (D r) (c .frames) (sendBits c) (own z c e k .many)) st cs w
             ∙ ap joined (each-whole sendNext st fs);
         octets = one-run sends sendLeft With framesOf sendNext refused moved _ (sendFrame r l) (λ z c e k. own z c e k .octets) st cs w;
-        holds = run-some sends sendLeft With framesOf sendNext refused moved (Holds r) (λ z c e k h. own z c e k .holds (rw (length-parts (D r) (c .frames) (sendBits c)) at h)) st cs w;
+        holds = run-some sends sendLeft With framesOf sendNext refused moved (Holds r)
+            (λ z c e k h. own z c e k .holds (rw (length-parts (D r) (c .frames) (sendBits c)) at h)) st cs w;
       }
 
 -- ---- the receiver
@@ -165,11 +179,13 @@ module _ (r : Record) (l : Law) where
   unfolding receiveLeft
   refusedʳ st c e = rw e
 
-  movedʳ : (st : LineState) (c : ReceiveCall) → receives st c ≡ true → Withʳ c → receiveLeft st c ≡ after (receiveNext r l) st (framesIn st c)
+  movedʳ : (st : LineState) (c : ReceiveCall) → receives st c ≡ true → Withʳ c
+      → receiveLeft st c ≡ after (receiveNext r l) st (framesIn st c)
   unfolding receiveAfter
   movedʳ st c e w = ownʳ st c e w .state
 
-  pub receive-run : (st : LineState) (cs : List ReceiveCall) → ReceivesWith r l st cs → ReceiveRun r l st (octetsRead st cs) (handedOver st cs) (marksGiven st cs)
+  pub receive-run : (st : LineState) (cs : List ReceiveCall) → ReceivesWith r l st cs
+      → ReceiveRun r l st (octetsRead st cs) (handedOver st cs) (marksGiven st cs)
   unfolding octetsRead handedOver marksGiven ReceivesWith receiveFrames receiveMarks
   receive-run st cs w =
       let fs = overCalls receives receiveLeft framesIn st cs in
@@ -178,14 +194,17 @@ module _ (r : Record) (l : Law) where
         frames = fs;
         sized =
             fits-sized next 6 st fs (run-fits receives receiveLeft Withʳ framesIn next refusedʳ movedʳ (λ z f. length f ≡ 6)
-            (λ z c e k. sized-fits next 6 z (framesIn z c) (sized-parts 6 (c .frames) (receiveOctets c) (omega (arith, ownʳ z c e k .many)))) st cs w);
+            (λ z c e k. sized-fits next 6 z (framesIn z c)
+            (sized-parts 6 (c .frames) (receiveOctets c) (omega (arith, ownʳ z c e k .many)))) st cs w);
         octets =
-            one-run receives receiveLeft Withʳ framesIn next refusedʳ movedʳ (λ z c. receiveOctets c) (λ z f. f) (λ z c e k. whole next z 6 (c .frames) (receiveOctets c) (ownʳ z c e k .many)) st cs w
+            one-run receives receiveLeft Withʳ framesIn next refusedʳ movedʳ (λ z c. receiveOctets c) (λ z f. f)
+            (λ z c e k. whole next z 6 (c .frames) (receiveOctets c) (ownʳ z c e k .many)) st cs w
             ∙ ap joined (each-whole next st fs);
         bits =
             one-run receives receiveLeft Withʳ framesIn next refusedʳ movedʳ _ (receiveFrame r l)
             (λ z c e k. ap (λ (x : Record). bitsIn (dataBits x (c .frames)) (receiveBytes z c)) (k .0) ∙ ownʳ z c e k .bits) st cs w;
         marks =
-            one-run receives receiveLeft Withʳ framesIn next refusedʳ movedʳ _ (λ z y. mark r l y ∷ []) (λ z c e k. ownʳ z c e k .marks ∙ sym (ones next (mark r l) z (framesIn z c))) st cs w
+            one-run receives receiveLeft Withʳ framesIn next refusedʳ movedʳ _ (λ z y. mark r l y ∷ [])
+            (λ z c e k. ownʳ z c e k .marks ∙ sym (ones next (mark r l) z (framesIn z c))) st cs w
             ∙ ones next (mark r l) st fs;
       }

@@ -15,8 +15,10 @@ use Rattle.standard.specs.First.{bare, test, first}
 use Rattle.standard.specs.Bits.{weight, odd, bit, bitAt, field}
 use Rattle.standard.specs.Record.{indexOf, topIndex, halfOf, inMask}
 use Rattle.standard.specs.Crc.{crcBelow}
-use Rattle.standard.specs.Cp.{gamma, cpLength, cpByteCount, runPlace, Field, covers, bitIn, headFields, cpBody, cpBit, cpBytes, indexIn, maskBitIn, halfIn, recordIn, crcMatches, startBitSet, within, reserved, ignored}
-use Rattle.standard.specs.Refusals.{shorter, countExceedsBytes, syncBroken, lengthWrong, fixedBitWrong, maskAboveIndices, rateTests, recordTests, readTests, writeTests}
+use Rattle.standard.specs.Cp.{gamma, cpLength, cpByteCount, runPlace, Field, covers, bitIn, headFields, cpBody, cpBit, cpBytes, indexIn}
+use Rattle.standard.specs.Cp.{maskBitIn, halfIn, recordIn, crcMatches, startBitSet, within, reserved, ignored}
+use Rattle.standard.specs.Refusals.{shorter, countExceedsBytes, syncBroken, lengthWrong, fixedBitWrong, maskAboveIndices, rateTests}
+use Rattle.standard.specs.Refusals.{recordTests, readTests, writeTests}
 use Rattle.standard.specs.Calls.{accepted, over, readRefusal, readRecord, writeRefusal, writeBytes}
 use Rattle.standard.specs.declared.Record.{Record}
 use Rattle.standard.proofs.Lists.{getD-list, any-none, or-none, every, every-at, T→true, largest-ext}
@@ -45,12 +47,15 @@ module _ (f : ℕ → Bool) where
       none : covers x n ≡ false → covered xs n ≡ false → covered (x ∷ xs) n ≡ false
       none p q = ap₂ _||_ p q
 
-      go : ((covered xs n ≡ false → f n ≡ false) → bitIn xs n ≡ f n) → Dec (x .at ≤ n) → Dec (n < x .at + x .width) → cond (covers x n) (bit (x .value) (n - x .at)) (bitIn xs n) ≡ f n
+      go : ((covered xs n ≡ false → f n ≡ false) → bitIn xs n ≡ f n) → Dec (x .at ≤ n) → Dec (n < x .at + x .width)
+          → cond (covers x n) (bit (x .value) (n - x .at)) (bitIn xs n) ≡ f n
       go ih (yes l) (yes h) =
           let e : x .at + (n - x .at) ≡ n = omega arith in
           rw (ap₂ _&&_ (le-leb (x .at) n l) (lt-ltb n (x .at + x .width) h)) (a .0 (n - x .at) (omega arith) ∙ ap f e)
-      go ih (yes l) (no h) = let c : covers x n ≡ false = ap₂ _&&_ (le-leb (x .at) n l) (le-ltb n (x .at + x .width) (omega arith)) in rw c (ih (λ q. z (none c q)))
-      go ih (no l) d = let c : covers x n ≡ false = ap (λ (b : Bool). b && ltb n (x .at + x .width)) (lt-leb (x .at) n (omega arith)) in rw c (ih (λ q. z (none c q)))
+      go ih (yes l) (no h) = let c : covers x n ≡ false = ap₂ _&&_ (le-leb (x .at) n l) (le-ltb n (x .at + x .width) (omega arith)) in rw c
+          (ih (λ q. z (none c q)))
+      go ih (no l) d = let c : covers x n ≡ false = ap (λ (b : Bool). b && ltb n (x .at + x .width))
+          (lt-leb (x .at) n (omega arith)) in rw c (ih (λ q. z (none c q)))
 
 module _ (s : List ℕ) (n : ℕ) (ok : first (readTests s n) .number ≡ 0) where
   abbrev f : ℕ → Bool
@@ -113,7 +118,8 @@ module _ (s : List ℕ) (n : ℕ) (ok : first (readTests s n) .number ≡ 0) whe
 
   half-is : (h : ℕ) → h < 12 → halfOf r h ≡ halfIn f g h
   unfolding recordIn topIndex
-  half-is h b = getD-list (halfIn f (largest (indexIn f) 6)) 0 12 h b ∙ ap (λ (x : ℕ). halfIn f x h) (sym (largest-ext (indexOf r) (indexIn f) 6 index-is))
+  half-is h b = getD-list (halfIn f (largest (indexIn f) 6)) 0 12 h b ∙ ap (λ (x : ℕ). halfIn f x h)
+      (sym (largest-ext (indexOf r) (indexIn f) 6 index-is))
 
   high-zero : (h : ℕ) → 2 * (g + 1) ≤ h → h < 12 → halfOf r h ≡ 0
   unfolding halfIn
@@ -127,7 +133,8 @@ module _ (s : List ℕ) (n : ℕ) (ok : first (readTests s n) .number ≡ 0) whe
       let e : 64 * ((2 * m + u / 64) % 2) + u % 64 ≡ u = omega arith in
       let l : (2 * m + u / 64) / 2 ≤ g = omega arith in
       ap (λ (x : ℕ). bit x (u % 64)) (half-is (2 * m + u / 64) (omega (arith, top)))
-      ∙ rw (le-leb ((2 * m + u / 64) / 2) g l) (field-bit (maskBitIn f ((2 * m + u / 64) / 2)) (64 * ((2 * m + u / 64) % 2)) 64 (u % 64) (omega arith))
+      ∙ rw (le-leb ((2 * m + u / 64) / 2) g l)
+      (field-bit (maskBitIn f ((2 * m + u / 64) / 2)) (64 * ((2 * m + u / 64) % 2)) 64 (u % 64) (omega arith))
       ∙ ap₂ (maskBitIn f) d e
 
   -- ---- the head
@@ -201,14 +208,17 @@ module _ (s : List ℕ) (n : ℕ) (ok : first (readTests s n) .number ≡ 0) whe
         last (inr q) = zeros k (omega arith) (ap (λ (b : Bool). b || leb (289 + gamma g) k) (T→true (reserved k) q))
 
         fixed-bit : (within 30 32 k ≡ true) ⊎ T (eqb k 128 || reserved k) → f k ≡ false
-        fixed-bit (inl q) = let p = both (leb 30 k) (leb k 32) q in fixed .1 .0 k (leb-true 30 k (p .0)) (omega (arith, leb-true k 32 (p .1)))
+        fixed-bit (inl q) =
+            let p = both (leb 30 k) (leb k 32) q in fixed .1 .0 k (leb-true 30 k (p .0)) (omega (arith, leb-true k 32 (p .1)))
         fixed-bit (inr q) = last (or-true _ _ q)
 
         start : (leb 17 k && eqb (k % 17) 0 ≡ true) ⊎ T (within 30 32 k || (eqb k 128 || reserved k)) → f k ≡ false
-        start (inl q) = let p = both (leb 17 k) (eqb (k % 17) 0) q in start-zero k (leb-true 17 k (p .0)) (omega arith) (eqb-true (k % 17) 0 (p .1))
+        start (inl q) =
+            let p = both (leb 17 k) (eqb (k % 17) 0) q in start-zero k (leb-true 17 k (p .0)) (omega arith) (eqb-true (k % 17) 0 (p .1))
         start (inr q) = fixed-bit (or-true _ _ q)
 
-        in-field : (covered (headFields r) k ≡ true) ⊎ T (leb 17 k && eqb (k % 17) 0 || (within 30 32 k || (eqb k 128 || reserved k))) → f k ≡ false
+        in-field : (covered (headFields r) k ≡ true) ⊎ T (leb 17 k && eqb (k % 17) 0 || (within 30 32 k || (eqb k 128 || reserved k)))
+            → f k ≡ false
         in-field (inl q) = absurd (let z : _≡_ {A = ℕ} 0 1 = ap weight (sym e ∙ q) in omega arith)
         in-field (inr q) = start (or-true _ _ q)
 
@@ -218,7 +228,8 @@ module _ (s : List ℕ) (n : ℕ) (ok : first (readTests s n) .number ≡ 0) whe
     run-bit : (q j : ℕ) → q < 8 * (g + 1) → j < 16 → cpBit r (137 + 17 * q + j) ≡ f (137 + 17 * q + j)
     run-bit q j a b =
         let e : runPlace (q / 8) ((16 * (q % 8) + j) / 16) + (16 * (q % 8) + j) % 16 ≡ 137 + 17 * q + j = omega arith in
-        ap (cpBit r) (sym e) ∙ cp-mask r (q / 8) (16 * (q % 8) + j) (omega arith) (omega arith) ∙ mask-bit (q / 8) (16 * (q % 8) + j) (omega arith) (omega arith) ∙ ap f e
+        ap (cpBit r) (sym e) ∙ cp-mask r (q / 8) (16 * (q % 8) + j) (omega arith) (omega arith)
+        ∙ mask-bit (q / 8) (16 * (q % 8) + j) (omega arith) (omega arith) ∙ ap f e
 
     body : (k : ℕ) → k ≤ 272 + gamma g → cpBit r k ≡ f k
     body k h = go (decLt k 137) (decEq (k % 17) 0)
@@ -244,7 +255,9 @@ module _ (s : List ℕ) (n : ℕ) (ok : first (readTests s n) .number ≡ 0) whe
         go (no l) (no d) =
             let e : 273 + gamma g + (k - (273 + gamma g)) ≡ k = omega arith in
             ap (cpBit r) (sym e) ∙ cp-crc r (k - (273 + gamma g)) (omega arith)
-            ∙ ap (λ (x : ℕ). bit x (k - (273 + gamma g))) (crcBelow-ext (bitIn (cpBody r)) f (272 + gamma g) (λ i b. sym (cp-body r i (omega arith)) ∙ body i (omega arith)) ∙ crc-same)
+            ∙ ap (λ (x : ℕ). bit x (k - (273 + gamma g)))
+            (crcBelow-ext (bitIn (cpBody r)) f (272 + gamma g) (λ i b. sym (cp-body r i (omega arith)) ∙ body i (omega arith))
+            ∙ crc-same)
             ∙ field-bit f (273 + gamma g) 16 (k - (273 + gamma g)) (omega arith) ∙ ap f e
 
     same-bytes : ((i : ℕ) → getD s i 0 < 256) → cpBytes r ≡ take (cpByteCount g) s
@@ -257,7 +270,8 @@ module _ (s : List ℕ) (n : ℕ) (ok : first (readTests s n) .number ≡ 0) whe
       let above = test 12 (maskAboveIndices r) ∷ [] in
       first-none (writeTests r short) (
         not-read 3 (lit< tt),
-        none-append (rateTests r ++ above) (test 17 short ∷ []) (none-append (rateTests r) above rates (zero-half r top high-zero, tt)) (e, tt),
+        none-append (rateTests r ++ above) (test 17 short ∷ []) (none-append (rateTests r) above rates (zero-half r top high-zero, tt))
+            (e, tt),
       )
 
 -- what is to be shown of the record x that was read
@@ -265,12 +279,15 @@ abbrev Back : List ℕ → Record → Type 0
 Back s x =
     ((k : ℕ) → k < 8 * cpByteCount (topIndex x) → ignored (topIndex x) k ≡ true → bitAt s k ≡ false)
     → (buffer : List ℕ) → cpByteCount (topIndex x) ≤ length buffer
-    → (accepted (writeRefusal (record { cp = x; bytes = buffer })) ≡ true) × (writeBytes (record { cp = x; bytes = buffer }) ≡ over (take (cpByteCount (topIndex x)) s) buffer)
+    → (accepted (writeRefusal (record { cp = x; bytes = buffer })) ≡ true)
+    × (writeBytes (record { cp = x; bytes = buffer }) ≡ over (take (cpByteCount (topIndex x)) s) buffer)
 
 back : (s : List ℕ) (n : ℕ) → ((i : ℕ) → getD s i 0 < 256) → first (readTests s n) .number ≡ 0 → Back s (recordIn (bitAt s))
 unfolding writeRefusal writeBytes
 back s n bytes ok zeros buffer h =
-    let none = ap accepted (write-none s n ok (shorter buffer (cpByteCount (topIndex (recordIn (bitAt s))))) (le-ltb (length buffer) (cpByteCount (topIndex (recordIn (bitAt s)))) h)) in
+    let none = ap accepted
+    (write-none s n ok (shorter buffer (cpByteCount (topIndex (recordIn (bitAt s)))))
+    (le-ltb (length buffer) (cpByteCount (topIndex (recordIn (bitAt s)))) h)) in
     (none, rw none (ap (λ (x : List ℕ). over x buffer) (same-bytes s n ok zeros bytes)))
 
 pub read-then-write : ReadThenWrite

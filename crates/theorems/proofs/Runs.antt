@@ -19,7 +19,8 @@ use Rattle.standard.specs.declared.Record.{Record}
 use Rattle.standard.proofs.Lists.{Sized, sized-at, length-joined, joined-at, joined-inj, length-each, sized-each}
 use Rattle.standard.proofs.Modulus.{positive-factor}
 use Rattle.standard.proofs.Frame.{Holds, sent-mark, length-sendFrame, length-receiveFrame}
-use Rattle.theorems.specs.Runs.{message, Damage, clean, frames, Outside, Unaltered, Carried, reach, Beyond, Same, Delivered, RunsDeliver, MessagesDiffer}
+use Rattle.theorems.specs.Runs.{message, Damage, clean, frames, Outside, Unaltered, Carried, reach, Beyond, Same, Delivered}
+use Rattle.theorems.specs.Runs.{RunsDeliver, MessagesDiffer}
 use Rattle.theorems.proofs.Ends.{start, past-damage}
 use Rattle.theorems.proofs.Doubt.{Near, near-any, near-same, link, mends}
 use Rattle.theorems.proofs.OverCalls.{SendRun, send-run, ReceiveRun, receive-run, sized-fits, map-whole}
@@ -75,7 +76,8 @@ module _ (r : Record) (l : Law) where
 
   length-heard : (t : LineState) (ys : List (List ℕ)) → length (heard t ys) ≡ length ys * D r
   length-heard t ys =
-      length-joined (D r) (each (receiveFrame r l) (receiveNext r l) t ys) (sized-each (receiveFrame r l) (receiveNext r l) (D r) (length-receiveFrame r l) t ys)
+      length-joined (D r) (each (receiveFrame r l) (receiveNext r l) t ys)
+      (sized-each (receiveFrame r l) (receiveNext r l) (D r) (length-receiveFrame r l) t ys)
       ∙ ap (λ (x : ℕ). x * D r) (length-each (receiveFrame r l) (receiveNext r l) t ys)
 
   module _ (holds : Holds r) where
@@ -84,7 +86,8 @@ module _ (r : Record) (l : Law) where
         → (c : ℕ) → Near c s t → (p : ℕ) → p < length ys * D r → Beyond w (dataBits r) p → c ≤ p
         → getD (heard t ys) p false ≡ getD (joined fs) p false
     heard-asSent s t fs ys a le w o c n p h k q =
-        past-damage (link r l holds) [] (mends r l) w c s t fs ys n (sized-fits sendNext (D r) s fs a) le o p (omega (arith, start-sized (D r) (length ys) fs a le)) (go w k) q
+        past-damage (link r l holds) [] (mends r l) w c s t fs ys n (sized-fits sendNext (D r) s fs a) le o p
+        (omega (arith, start-sized (D r) (length ys) fs a le)) (go w k) q
         ∙ ap (λ (x : List (List Bool)). getD (joined x) p false) (map-whole fs)
       where
         go : (w : Damage) → Beyond w (dataBits r) p → Beyond w (λ i. start (λ f. f) i fs) p
@@ -114,7 +117,8 @@ getD-map f (x ∷ xs) d (suc i) h = getD-map f xs d i (omega arith)
 beyond-clean : (w : Damage) (f : ℕ → ℕ) (p : ℕ) → w ≡ clean → Beyond w f p
 beyond-clean w f p e = subst (λ (x : Damage). Beyond x f p) (sym e) tt
 
-module _ (r : Record) (l : Law) (s t : LineState) (ds out : List Bool) (xs os ms : List ℕ) (S : SendRun r l s ds xs) (Q : ReceiveRun r l t os out ms)
+module _ (r : Record) (l : Law) (s t : LineState) (ds out : List Bool) (xs os ms : List ℕ) (S : SendRun r l s ds xs)
+    (Q : ReceiveRun r l t os out ms)
     (w : Damage) (line : List ℕ) (c : Carried w xs line) (m : ℕ) (le : m * 6 ≤ length line) (e : os ≡ take (m * 6) line) where
   abbrev fs : List (List Bool)
   fs = S .frames
@@ -151,7 +155,8 @@ module _ (r : Record) (l : Law) (s t : LineState) (ds out : List Bool) (xs os ms
   asSent p h b k =
       let near = near-start s t p k in
       ap (λ (x : List Bool). getD x p false) (Q .bits)
-      ∙ heard-asSent r l (S .holds (le-trans (positive-factor m (D r) p h) (omega (arith, short, many)))) s t fs ys (S .sized) short w same-frame (near .0) (near .1) p (rw many h) b (near .2)
+      ∙ heard-asSent r l (S .holds (le-trans (positive-factor m (D r) p h) (omega (arith, short, many)))) s t fs ys
+      (S .sized) short w same-frame (near .0) (near .1) p (rw many h) b (near .2)
       ∙ ap (λ (x : List Bool). getD x p false) (sym (S .message))
 
   deliver : Delivered r w s t m ds out ms
@@ -168,18 +173,21 @@ module _ (r : Record) (l : Law) (s t : LineState) (ds out : List Bool) (xs os ms
             ∙ ap (mark r l) (same-frame i i′ o) ∙ all-good r l (S .holds (omega (arith, short))) s fs (S .sized) i (omega (arith, short));
         whole = λ z k.
             ext-getD false out (take (dataBits r m) ds) (count ∙ sym (length-take-le (dataBits r m) ds held))
-            (λ p h. let h′ : p < dataBits r m = rw count at h in asSent p h′ (beyond-clean w (dataBits r) p z) (inl k) ∙ sym (getD-take (dataBits r m) ds p false h′));
+            (λ p h. let h′ : p < dataBits r m = rw count at h in asSent p h′ (beyond-clean w (dataBits r) p z) (inl k)
+            ∙ sym (getD-take (dataBits r m) ds p false h′));
       }
 
 pub runs : RunsDeliver
 runs r l s t sending receiving w line m u =
-    deliver r l s t _ _ _ _ _ (send-run r l s sending (u .sender)) (receive-run r l t receiving (u .receiver)) w line (u .carried) m (u .inside) (u .reads)
+    deliver r l s t _ _ _ _ _ (send-run r l s sending (u .sender)) (receive-run r l t receiving (u .receiver)) w line (u .carried) m
+    (u .inside) (u .reads)
 
 -- ---- two messages
 
 module _ (r : Record) (l : Law) (s : LineState) where
   -- a message is what its own octets give back
-  back : (ds : List Bool) (os : List ℕ) (S : SendRun r l s ds os) (p : ℕ) → p < length (S .frames) * D r → getD (heard r l s (sixes r l s (S .frames))) p false ≡ getD ds p false
+  back : (ds : List Bool) (os : List ℕ) (S : SendRun r l s ds os) (p : ℕ) → p < length (S .frames) * D r
+      → getD (heard r l s (sixes r l s (S .frames))) p false ≡ getD ds p false
   back ds os S p h =
       let n = length-sixes r l s (S .frames) in
       heard-asSent r l (S .holds (positive-factor (length (S .frames)) (D r) p h)) s s (S .frames) (sixes r l s (S .frames)) (S .sized)
@@ -189,9 +197,11 @@ module _ (r : Record) (l : Law) (s : LineState) where
   long : (ds : List Bool) (os : List ℕ) (S : SendRun r l s ds os) → length ds ≡ length (S .frames) * D r
   long ds os S = ap length (S .message) ∙ length-joined (D r) (S .frames) (S .sized)
 
-  same-message : (ds ds′ : List Bool) (os os′ : List ℕ) → SendRun r l s ds os → SendRun r l s ds′ os′ → length ds ≡ length ds′ → os ≡ os′ → ds ≡ ds′
+  same-message : (ds ds′ : List Bool) (os os′ : List ℕ) → SendRun r l s ds os → SendRun r l s ds′ os′ → length ds ≡ length ds′ → os ≡ os′
+      → ds ≡ ds′
   same-message ds ds′ os os′ a b e o =
-      let n : length (a .frames) ≡ length (b .frames) = eq-of-mul-eq-mul-right (D r) (omega arith) (length (a .frames)) (length (b .frames)) (sym (long ds os a) ∙ e ∙ long ds′ os′ b) in
+      let n : length (a .frames) ≡ length (b .frames) = eq-of-mul-eq-mul-right (D r) (omega arith) (length (a .frames)) (length (b .frames))
+      (sym (long ds os a) ∙ e ∙ long ds′ os′ b) in
       let same : sixes r l s (a .frames) ≡ sixes r l s (b .frames) =
       joined-inj 6 (sixes r l s (a .frames)) (sixes r l s (b .frames)) (sized-sixes r l s (a .frames)) (sized-sixes r l s (b .frames))
       (length-sixes r l s (a .frames) ∙ n ∙ sym (length-sixes r l s (b .frames))) (sym (a .octets) ∙ o ∙ b .octets) in

@@ -15,8 +15,10 @@ use Rattle.standard.specs.First.{bare, test, first}
 use Rattle.standard.specs.Bits.{weight, bit, bitAt, field}
 use Rattle.standard.specs.Record.{indexOf, topIndex, halfOf, inMask}
 use Rattle.standard.specs.Crc.{crcBelow}
-use Rattle.standard.specs.Cp.{gamma, cpLength, cpByteCount, runPlace, bitIn, headFields, cpBody, cpBit, cpBytes, indexIn, maskBitIn, halfIn, recordIn, crcMatches, startBitSet}
-use Rattle.standard.specs.Refusals.{countExceedsBytes, countTooSmall, syncBroken, indexTooLarge, lengthWrong, fixedBitWrong, drnTooLarge, maskAboveIndices, rateTests, recordTests, readTests, writeTests}
+use Rattle.standard.specs.Cp.{gamma, cpLength, cpByteCount, runPlace, bitIn, headFields, cpBody, cpBit, cpBytes, indexIn, maskBitIn, halfIn}
+use Rattle.standard.specs.Cp.{recordIn, crcMatches, startBitSet}
+use Rattle.standard.specs.Refusals.{countExceedsBytes, countTooSmall, syncBroken, indexTooLarge, lengthWrong, fixedBitWrong, drnTooLarge}
+use Rattle.standard.specs.Refusals.{maskAboveIndices, rateTests, recordTests, readTests, writeTests}
 use Rattle.standard.specs.Calls.{accepted, readRefusal, readRecord, writeRefusal, writeBitCount, writeBytes}
 use Rattle.standard.specs.declared.Record.{Record}
 use Rattle.standard.proofs.Lists.{listFrom-is, none-any, every, every-at, T→true, largest-ext}
@@ -107,7 +109,8 @@ module _ (r : Record) (shaped : Shaped r) (short : Bool) (ok : first (writeTests
   half-is h b = ap (λ (x : ℕ). halfIn f x h) top-is ∙ go (decLe (h / 2) g)
     where
       go : Dec (h / 2 ≤ g) → halfIn f g h ≡ halfOf r h
-      go (yes l) = rw (le-leb (h / 2) g l) (field-is (maskBitIn f (h / 2)) (64 * (h % 2)) 64 (halfOf r h) (λ j k. half-bit h j l k) (shaped .words h))
+      go (yes l) = rw (le-leb (h / 2) g l)
+          (field-is (maskBitIn f (h / 2)) (64 * (h % 2)) 64 (halfOf r h) (λ j k. half-bit h j l k) (shaped .words h))
       go (no l) = rw (lt-leb (h / 2) g (omega arith)) (sym (half-zero r top above h (omega arith) b))
 
   record-is : recordIn f ≡ r
@@ -116,7 +119,8 @@ module _ (r : Record) (shaped : Shaped r) (short : Bool) (ok : first (writeTests
       let a : f 18 ≡ r .granted = head-bit 18 (lit< tt) ∙ bit-weight (r .granted) in
       let b : field f 20 5 ≡ r .drn = head-field 20 5 (r .drn) (lit≤ tt) (omega (arith, drn-le)) refl in
       let c : f 33 ≡ r .acknowledge = head-bit 33 (lit< tt) ∙ bit-weight (r .acknowledge) in
-      let d : listFrom (indexIn f) 0 6 ≡ r .index = sym (listFrom-is (indexIn f) 0 6 (r .index) (shaped .indices) (λ i h. sym (index-is i h))) in
+      let d : listFrom (indexIn f) 0 6 ≡ r .index = sym
+      (listFrom-is (indexIn f) 0 6 (r .index) (shaped .indices) (λ i h. sym (index-is i h))) in
       let e : listFrom (halfIn f (largest (indexIn f) 6)) 0 12 ≡ r .mask =
       sym (listFrom-is (halfIn f (largest (indexIn f) 6)) 0 12 (r .mask) (shaped .halves) (λ h k. sym (half-is h k))) in
       λ i. record { granted = a i; drn = b i; acknowledge = c i; index = d i; mask = e i }
@@ -129,7 +133,8 @@ module _ (r : Record) (shaped : Shaped r) (short : Bool) (ok : first (writeTests
 
   sync : syncBroken f ≡ false
   unfolding syncBroken bitIn headFields
-  sync = none-any (λ n. not (f n)) 0 17 (λ n a b. ap not (head-bit n (omega arith) ∙ T→true (bitIn (headFields r) n) (every-at (bitIn (headFields r)) 17 tt n (omega arith))))
+  sync = none-any (λ n. not (f n)) 0 17
+      (λ n a b. ap not (head-bit n (omega arith) ∙ T→true (bitIn (headFields r) n) (every-at (bitIn (headFields r)) 17 tt n (omega arith))))
 
   -- start bits before the masks
   head-starts : T (every (λ i. not (covered (headFields r) (17 * (i + 1)))) 8)
@@ -143,7 +148,9 @@ module _ (r : Record) (shaped : Shaped r) (short : Bool) (ok : first (writeTests
       go (yes l) =
           let e : 17 * (i - 1 + 1) ≡ 17 * i = omega arith in
           cp-head r (17 * i) (omega arith)
-          ∙ bitIn-none (headFields r) (17 * i) (not-true _ (ap (λ (n : ℕ). not (covered (headFields r) n)) (sym e) ∙ T→true _ (every-at (λ i. not (covered (headFields r) (17 * (i + 1)))) 8 head-starts (i - 1) (omega arith))))
+          ∙ bitIn-none (headFields r) (17 * i)
+          (not-true _ (ap (λ (n : ℕ). not (covered (headFields r) n)) (sym e)
+          ∙ T→true _ (every-at (λ i. not (covered (headFields r) (17 * (i + 1)))) 8 head-starts (i - 1) (omega arith))))
       go (no l) = cp-zero r (17 * i) (omega arith) (inl (omega arith))
 
   starts : startBitSet f g ≡ false
@@ -156,7 +163,8 @@ module _ (r : Record) (shaped : Shaped r) (short : Bool) (ok : first (writeTests
       let sum : ℕ = crcBelow (bitIn (cpBody r)) (272 + gamma g) in
       eq-eqb (crcBelow f (272 + gamma g)) (field f (273 + gamma g) 16)
       (crcBelow-ext f (bitIn (cpBody r)) (272 + gamma g) (λ n h. bit-is n (omega arith) ∙ cp-body r n (omega arith))
-      ∙ sym (field-is f (273 + gamma g) 16 (crcBelow (bitIn (cpBody r)) (272 + gamma g)) (λ j h. bit-is (273 + gamma g + j) (omega arith) ∙ cp-crc r j h) (crcBelow-lt (bitIn (cpBody r)) (272 + gamma g))))
+      ∙ sym (field-is f (273 + gamma g) 16 (crcBelow (bitIn (cpBody r)) (272 + gamma g))
+      (λ j h. bit-is (273 + gamma g + j) (omega arith) ∙ cp-crc r j h) (crcBelow-lt (bitIn (cpBody r)) (272 + gamma g))))
 
   fixed : fixedBitWrong f ≡ false
   unfolding fixedBitWrong any bitIn headFields

@@ -6,7 +6,8 @@ use mathlib.Core.Bool.{Bool, true, false, cond}
 use mathlib.Core.List.{List, [], _∷_}
 use lib.Dec.{eqb}
 use Rattle.standard.specs.First.{bare, valued, Test, first}
-use Rattle.standard.specs.Refusals.{indexTooLarge, grantedBelowFullRate, intervalEmpty, productTooSmall, recordTests, readTests, writeTests, frameTests}
+use Rattle.standard.specs.Refusals.{indexTooLarge, grantedBelowFullRate, intervalEmpty, productTooSmall, recordTests, readTests, writeTests}
+use Rattle.standard.specs.Refusals.{frameTests}
 use Rattle.standard.specs.declared.LineState.{LineState}
 use Rattle.standard.specs.declared.Record.{Record}
 

@@ -103,13 +103,16 @@ table =
     -- B1
     sameList (sendFrames common Mu 1 fresh (zeros 21)) (replicate 6 0x7a) ∷
     -- B2
-    (sameList (sendFrames common Mu 1 fresh (ones 21)) (0xfd ∷ 0x7e ∷ 0xff ∷ 0x7a ∷ 0xfd ∷ 0x7a ∷ []) && eqb (numberOf (drop 6 (lineBits fresh (ones 21)))) 4_095
+    (sameList (sendFrames common Mu 1 fresh (ones 21)) (0xfd ∷ 0x7e ∷ 0xff ∷ 0x7a ∷ 0xfd ∷ 0x7a ∷ []) && eqb
+    (numberOf (drop 6 (lineBits fresh (ones 21)))) 4_095
     && eqb (sendAfter common 1 fresh (ones 21) .history) 2_097_144 && not (sendAfter common 1 fresh (ones 21) .sign)) ∷
     -- B3
     (eqb (receivedNumber common Mu (replicate 6 0xff)) 46_655 && eqb (mark common Mu (replicate 6 0xff)) 7) ∷
     -- B4
-    (eqb (receivedNumber common Mu (ofLabels (1 ∷ 1 ∷ 4 ∷ 1 ∷ 1 ∷ 4 ∷ []))) 32_767 && eqb (mark common Mu (ofLabels (1 ∷ 1 ∷ 4 ∷ 1 ∷ 1 ∷ 4 ∷ []))) 0
-    && eqb (receivedNumber common Mu (ofLabels (2 ∷ 1 ∷ 4 ∷ 1 ∷ 1 ∷ 4 ∷ []))) 32_768 && eqb (mark common Mu (ofLabels (2 ∷ 1 ∷ 4 ∷ 1 ∷ 1 ∷ 4 ∷ []))) 7) ∷
+    (eqb (receivedNumber common Mu (ofLabels (1 ∷ 1 ∷ 4 ∷ 1 ∷ 1 ∷ 4 ∷ []))) 32_767 && eqb
+    (mark common Mu (ofLabels (1 ∷ 1 ∷ 4 ∷ 1 ∷ 1 ∷ 4 ∷ []))) 0
+    && eqb (receivedNumber common Mu (ofLabels (2 ∷ 1 ∷ 4 ∷ 1 ∷ 1 ∷ 4 ∷ []))) 32_768 && eqb
+    (mark common Mu (ofLabels (2 ∷ 1 ∷ 4 ∷ 1 ∷ 1 ∷ 4 ∷ []))) 7) ∷
     -- B5
     eqb (mark common Mu (ofUcodes (0 ∷ 0 ∷ 6 ∷ 0 ∷ 6 ∷ 0 ∷ []))) 3 ∷
     -- B6
@@ -119,7 +122,8 @@ table =
     -- B8
     sameList (sendFrames common A 1 fresh (zeros 21)) (replicate 6 0x50) ∷
     -- B9
-    (eqb (K fiveOnce) 15 && sameList (sizes fiveOnce) (6 ∷ 6 ∷ 6 ∷ 6 ∷ 6 ∷ 5 ∷ []) && eqb (product (sizes fiveOnce)) 38_880 && eqb (fault fiveOnce) 0
+    (eqb (K fiveOnce) 15 && sameList (sizes fiveOnce) (6 ∷ 6 ∷ 6 ∷ 6 ∷ 6 ∷ 5 ∷ []) && eqb (product (sizes fiveOnce)) 38_880 && eqb
+    (fault fiveOnce) 0
     && sameList (sizes fiveTwice) (6 ∷ 6 ∷ 6 ∷ 6 ∷ 5 ∷ 5 ∷ []) && eqb (product (sizes fiveTwice)) 32_400 && eqb (fault fiveTwice) 11) ∷
     -- B10, but for its 'never'
     (eqb (K full) 42 && eqb (fault full) 0 && eqb (fault (twoMasks 28 word word (word - 1) (0 ∷ 0 ∷ 0 ∷ 0 ∷ 0 ∷ 1 ∷ []))) 11) ∷

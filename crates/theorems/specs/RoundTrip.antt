@@ -1,4 +1,5 @@
--- Document 01, 'CP': 'Writing then reading returns the record. Reading then writing returns the 37 to 122 bytes exactly where all ignored bits were zero.' Assumes nothing.
+-- Document 01, 'CP': 'Writing then reading returns the record. Reading then writing returns the 37 to 122 bytes exactly where all ignored
+-- bits were zero.' Assumes nothing.
 use mathlib.Core.Path.{_≡_}
 use Prim.Native.Nat.{ℕ, _*_, _^_, _≤_, _<_}
 use mathlib.Core.Bool.{true, false}
@@ -37,4 +38,5 @@ ReadThenWrite =
     (c : ReadCall) → ((i : ℕ) → getD (c .bytes) i 0 < 256) → accepted (readRefusal c) ≡ true
     → ((n : ℕ) → n < 8 * cpByteCount (readTop c) → ignored (readTop c) n ≡ true → bitAt (c .bytes) n ≡ false)
     → (buffer : List ℕ) → cpByteCount (readTop c) ≤ length buffer
-    → (accepted (writeRefusal (writeBack c buffer)) ≡ true) × (writeBytes (writeBack c buffer) ≡ over (take (cpByteCount (readTop c)) (c .bytes)) buffer)
+    → (accepted (writeRefusal (writeBack c buffer)) ≡ true)
+    × (writeBytes (writeBack c buffer) ≡ over (take (cpByteCount (readTop c)) (c .bytes)) buffer)

@@ -7,7 +7,8 @@ use mathlib.Core.List.{List, [], _∷_, _++_}
 use lib.ListN.{length, getD, take}
 use Rattle.standard.specs.Bits.{bitsIn, nth}
 use Rattle.standard.specs.Frame.{dataBits}
-use Rattle.standard.specs.Calls.{accepted, SendCall, sendRefusal, sendBits, sendLeft, sendOctets, ReceiveCall, receiveRefusal, receiveOctets, receiveLeft, receiveBytes, receiveMarked}
+use Rattle.standard.specs.Calls.{accepted, SendCall, sendRefusal, sendBits, sendLeft, sendOctets, ReceiveCall, receiveRefusal}
+use Rattle.standard.specs.Calls.{receiveOctets, receiveLeft, receiveBytes, receiveMarked}
 use Rattle.standard.specs.declared.Law.{Law}
 use Rattle.standard.specs.declared.LineState.{LineState}
 use Rattle.standard.specs.declared.Record.{Record}
@@ -95,11 +96,13 @@ abbrev pub Same : LineState → LineState → Type 0
 Same s t = (s .history ≡ t .history) × (s .sign ≡ t .sign)
 
 -- a list of sender calls begun in s, the line, and a list of receiver calls begun in t
-pub record Run (r : Record) (l : Law) (s t : LineState) (sending : List SendCall) (receiving : List ReceiveCall) (w : Damage) (line : List ℕ) (m : ℕ) : Type 0 where
+pub record Run (r : Record) (l : Law) (s t : LineState) (sending : List SendCall) (receiving : List ReceiveCall) (w : Damage)
+    (line : List ℕ) (m : ℕ) : Type 0 where
   pub sender : SendsWith r l s sending
   pub receiver : ReceivesWith r l t receiving
   pub carried : Carried w (sent s sending) line
-  -- 'The accepted receiver calls read the result from frame 0 on, no frame skipped or read twice, and may stop before its end.' They read m frames
+  -- 'The accepted receiver calls read the result from frame 0 on, no frame skipped or read twice, and may stop before its end.' They read m
+  -- frames
   pub inside : m * 6 ≤ length line
   pub reads : octetsRead t receiving ≡ take (m * 6) line
 
@@ -108,12 +111,14 @@ pub record Delivered (r : Record) (w : Damage) (s t : LineState) (m : ℕ) (give
   -- 'If m frames were read, the bits handed over are as many as the message has in its first m frames.'
   pub held : dataBits r m ≤ length given
   pub count : length out ≡ dataBits r m
-  -- 'Every bit is as sent save at most those in frames a to b, the 24 bits after frame b and, where the receiver began in another state, bits 0 to 23.'
+  -- 'Every bit is as sent save at most those in frames a to b, the 24 bits after frame b and, where the receiver began in another state,
+  -- bits 0 to 23.'
   pub asSent : (p : ℕ) → p < dataBits r m → Beyond w (dataBits r) p → Same s t ⊎ (reach ≤ p) → nth out p ≡ nth given p
   -- 'Every frame read outside a to b has mark 0.'
   pub markCount : length marked ≡ m
   pub marks : (i : ℕ) → i < m → Outside w i → getD marked i 0 ≡ 0
-  -- 'If both ends began in the same state and the line changed nothing, the receiver has handed over exactly the sent bits of the frames it read'
+  -- 'If both ends began in the same state and the line changed nothing, the receiver has handed over exactly the sent bits of the frames it
+  -- read'
   pub whole : w ≡ clean → Same s t → out ≡ take (dataBits r m) given
 
 -- demand 3

@@ -3,6 +3,8 @@ use crate::words::add;
 use crate::words::add_decimal;
 use crate::words::add_named;
 use constellation::Mask;
+use constellation::d_of;
+use constellation::k_of;
 use standard::Record;
 ghost use Prim.Native.Nat.{_<_, _≤_};
 
@@ -16,15 +18,15 @@ fn add_flag(text: &mut [u8], at: usize, name: &[u8], flag: bool) -> usize {
 }
 
 // Adds the rate, K and D, or that this is a cleardown.
-fn add_rate(text: &mut [u8], at: usize, drn: u8) -> usize {
-    if drn == 0 {
+fn add_rate(text: &mut [u8], at: usize, r: Record) -> usize {
+    if r.drn == 0 {
         return add(text, at, b"cleardown (drn 0)\n");
     }
     let at = add(text, at, b"rate ");
-    let at = add_decimal(text, at, (drn as u64 + 20) * 8000 / 6);
-    let at = add_named(text, at, b" bit/s, drn ", drn as u64);
-    let at = add_named(text, at, b"K ", drn as u64 + 14);
-    add_named(text, at, b"D ", drn as u64 + 20)
+    let at = add_decimal(text, at, d_of(r) as u64 * 8000 / 6);
+    let at = add_named(text, at, b" bit/s, drn ", r.drn as u64);
+    let at = add_named(text, at, b"K ", k_of(r) as u64);
+    add_named(text, at, b"D ", d_of(r) as u64)
 }
 
 // Mask m of a record.
@@ -137,7 +139,7 @@ pub(crate) fn add_record(text: &mut [u8], at: usize, r: Record, bit_count: usize
     let at = add(text, at, b"CP sequence of ");
     let at = add_decimal(text, at, bit_count as u64);
     let at = add(text, at, b" bits\n");
-    let at = add_rate(text, at, r.drn);
+    let at = add_rate(text, at, r);
     let at = add_flag(text, at, b"granted ", r.granted);
     let at = add_flag(text, at, b"acknowledge ", r.acknowledge);
     let at = add_intervals(text, at, r);

@@ -92,7 +92,7 @@ fn describe_cp() {
     let read = loaded.read;
     let outcome = read.outcome;
     let r = read.record;
-    let code = answer::code_of(outcome);
+    let code = forms::code_of(outcome);
     let mut text = [0u8; 8192];
     if code == 0 {
         let at = add_record(&mut text, 0, r, loaded.bit_count);
@@ -113,7 +113,7 @@ fn stream_with(law: Law, sends: bool) {
     let read = loaded.read;
     let outcome = read.outcome;
     let r = read.record;
-    let code = answer::code_of(outcome);
+    let code = forms::code_of(outcome);
     if code != 0 {
         complain(b"the CP file is refused");
         complain_refusal(code);

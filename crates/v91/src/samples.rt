@@ -8,7 +8,7 @@ use standard::Law;
 // Adds a sample and a newline.
 fn add_sample(text: &mut [u8], at: usize, sample: i32) -> usize {
     let at = add_sign(text, at, sample < 0);
-    let at = add_decimal(text, at, signed::magnitude(sample));
+    let at = add_decimal(text, at, text::magnitude(sample));
     add(text, at, b"\n")
 }
 

@@ -1,4 +1,5 @@
-// Streams of any length through the sender and the receiver, by calls of 1,024 frames. That is a multiple of 8, so calls join on whole bytes.
+// Streams of any length through the sender and the receiver, by calls of 1,024 frames. That is a multiple of 8, so calls join on whole
+// bytes.
 use crate::input::complain_refusal;
 use crate::input::fill;
 use crate::words::add;
@@ -69,7 +70,7 @@ fn width_of(r: Record) -> usize
     if 28 < r.drn {
         return 48;
     }
-    r.drn as usize + 20
+    constellation::d_of(r)
 }
 
 // The frames that so many bytes of data fill.
@@ -95,7 +96,7 @@ fn send_some(r: Record, law: Law, s: Stream) -> Stream {
     let state = s.state;
     let done = codec::send(r, law, frames, state, &bytes, &mut octets);
     let outcome = done.outcome;
-    let code = answer::code_of(outcome);
+    let code = forms::code_of(outcome);
     if code != 0 {
         complain_refusal(code);
         return failed(s);
@@ -151,7 +152,7 @@ fn receive_some(r: Record, law: Law, s: Stream) -> Stream {
     let state = s.state;
     let done = codec::receive(r, law, frames, state, &octets, &mut bytes, &mut marks);
     let outcome = done.outcome;
-    let code = answer::code_of(outcome);
+    let code = forms::code_of(outcome);
     if code != 0 {
         complain_refusal(code);
         return failed(s);

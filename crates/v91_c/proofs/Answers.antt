@@ -11,7 +11,9 @@ use Rattle.standard.specs.First.{first}
 use Rattle.standard.specs.Record.{topIndex}
 use Rattle.standard.specs.Cp.{cpByteCount}
 use Rattle.standard.specs.Refusals.{outcomeAnswer, shorter, recordTests, writeTests}
-use Rattle.standard.specs.Calls.{accepted, over, readCall, readRefusal, readRecord, WriteCall, writeCall, writeRefusal, writeBitCount, writeBytes, sendCall, sendRefusal, sendLeft, sendOctets, receiveCall, receiveRefusal, receiveLeft, receiveBytes, receiveMarked}
+use Rattle.standard.specs.Calls.{accepted, over, readCall, readRefusal, readRecord, WriteCall, writeCall, writeRefusal, writeBitCount}
+use Rattle.standard.specs.Calls.{writeBytes, sendCall, sendRefusal, sendLeft, sendOctets, receiveCall, receiveRefusal, receiveLeft}
+use Rattle.standard.specs.Calls.{receiveBytes, receiveMarked}
 use Rattle.standard.specs.declared.Law.{Law}
 use Rattle.standard.specs.declared.LineState.{LineState}
 use Rattle.standard.specs.declared.Outcome.{Outcome}
@@ -20,7 +22,7 @@ use Rattle.standard.specs.declared.Record.{Record}
 use Rattle.standard.proofs.First.{none-first}
 use Rattle.standard.proofs.Stages.{refused-not}
 use Rattle.standard.proofs.Refusals.{top-lt, write-numbered}
-use Rattle.answer.specs.Coded.{coded}
+use Rattle.forms.specs.Coded.{coded}
 use Rattle.forms.specs.RecordBytes.{recordBytes, recordAt}
 use Rattle.forms.specs.StateBytes.{stateBytes, stateAt}
 use Rattle.v91_c.specs.Interface.{lawOf, answered, v91ReadCp, v91WriteCp, v91Send, v91Receive}
@@ -48,7 +50,11 @@ count-fits c = go (accepted (writeRefusal c)) refl
     go : (b : Bool) → accepted (writeRefusal c) ≡ b → writeBitCount c < 2 ^ 32
     go true e =
         let short = shorter (c .bytes) (cpByteCount (topIndex (c .cp))) in
-        rw e (omega (arith, top-lt (c .cp) (none-first (writeTests (c .cp) short) (write-numbered (c .cp) short) (eqb-true (writeRefusal c .number) 0 e) .0)))
+        rw e (omega (
+          arith,
+          top-lt (c .cp)
+              (none-first (writeTests (c .cp) short) (write-numbered (c .cp) short) (eqb-true (writeRefusal c .number) 0 e) .0),
+        ))
     go false e = rw e (lit< tt)
 
 module _ (rec cp : List ℕ) where
@@ -56,7 +62,9 @@ module _ (rec cp : List ℕ) where
   unfolding v91WriteCp answered first
   write-short h = rw (lt-ltb _ _ h)
 
-  module _ (long : 105 ≤ length rec) (r : Record) (er : r ≡ recordAt rec) (o : Outcome) (eo : outcomeAnswer o ≡ writeRefusal (writeCall r cp)) (k : ℕ) (ek : k ≡ coded (outcomeAnswer o)) (left : List ℕ) (el : left ≡ writeBytes (writeCall r cp)) where
+  module _ (long : 105 ≤ length rec) (r : Record) (er : r ≡ recordAt rec) (o : Outcome)
+      (eo : outcomeAnswer o ≡ writeRefusal (writeCall r cp)) (k : ℕ) (ek : k ≡ coded (outcomeAnswer o)) (left : List ℕ)
+      (el : left ≡ writeBytes (writeCall r cp)) where
     pub write-refused : (k ≡ 0 → ⊥) → v91WriteCp rec cp ≡ record { answer = k; cp = left }
     unfolding v91WriteCp answered first writeBytes
     write-refused p = rw (le-ltb _ _ long, el, ← er, ← eo, code-refused o k ek p, ek)
@@ -72,12 +80,14 @@ module _ (cp : List ℕ) (n : ℕ) (rec : List ℕ) where
   unfolding v91ReadCp answered first
   read-short h = rw (lt-ltb _ _ h)
 
-  module _ (long : 105 ≤ length rec) (o : Outcome) (eo : outcomeAnswer o ≡ readRefusal (readCall cp n)) (k : ℕ) (ek : k ≡ coded (outcomeAnswer o)) where
+  module _ (long : 105 ≤ length rec) (o : Outcome) (eo : outcomeAnswer o ≡ readRefusal (readCall cp n)) (k : ℕ)
+      (ek : k ≡ coded (outcomeAnswer o)) where
     pub read-refused : (k ≡ 0 → ⊥) → v91ReadCp cp n rec ≡ record { answer = k; rec = rec }
     unfolding v91ReadCp answered first
     read-refused p = rw (le-ltb _ _ long, ← eo, code-refused o k ek p, ek)
 
-    pub read-done : k ≡ 0 → (r : Record) → r ≡ readRecord (readCall cp n) → (left : List ℕ) → left ≡ over (recordBytes r) rec → v91ReadCp cp n rec ≡ record { answer = 0; rec = left }
+    pub read-done : k ≡ 0 → (r : Record) → r ≡ readRecord (readCall cp n) → (left : List ℕ) → left ≡ over (recordBytes r) rec
+        → v91ReadCp cp n rec ≡ record { answer = 0; rec = left }
     unfolding v91ReadCp answered first
     read-done z r er left el = rw (le-ltb _ _ long, ← eo, code-done o k ek z, el, er)
 
@@ -88,17 +98,21 @@ module _ (rec : List ℕ) (a : Bool) (n : ℕ) (bits octets state : List ℕ) wh
   unfolding v91Send answered first
   send-short-record h = rw (lt-ltb _ _ h)
 
-  pub send-short-state : 105 ≤ length rec → length state < 5 → v91Send rec a n bits octets state ≡ record { answer = 16; octets = octets; state = state }
+  pub send-short-state : 105 ≤ length rec → length state < 5 → v91Send rec a n bits octets state
+      ≡ record { answer = 16; octets = octets; state = state }
   unfolding v91Send answered first
   send-short-state h g = rw (le-ltb _ _ h, lt-ltb _ _ g)
 
-  module _ (long : 105 ≤ length rec) (wide : 5 ≤ length state) (r : Record) (er : r ≡ recordAt rec) (st : LineState) (es : st ≡ stateAt state) (l : Law) (el : l ≡ lawOf a)
-      (o : Outcome) (eo : outcomeAnswer o ≡ sendRefusal st (sendCall r l n bits octets)) (k : ℕ) (ek : k ≡ coded (outcomeAnswer o)) (os : List ℕ) (eos : os ≡ sendOctets st (sendCall r l n bits octets)) where
+  module _ (long : 105 ≤ length rec) (wide : 5 ≤ length state) (r : Record) (er : r ≡ recordAt rec) (st : LineState)
+      (es : st ≡ stateAt state) (l : Law) (el : l ≡ lawOf a)
+      (o : Outcome) (eo : outcomeAnswer o ≡ sendRefusal st (sendCall r l n bits octets)) (k : ℕ) (ek : k ≡ coded (outcomeAnswer o))
+      (os : List ℕ) (eos : os ≡ sendOctets st (sendCall r l n bits octets)) where
     pub send-refused : (k ≡ 0 → ⊥) → v91Send rec a n bits octets state ≡ record { answer = k; octets = os; state = state }
     unfolding v91Send answered first sendOctets
     send-refused p = rw (le-ltb _ _ long, le-ltb _ _ wide, eos, ← er, ← es, ← el, ← eo, code-refused o k ek p, ek)
 
-    pub send-done : k ≡ 0 → (left : LineState) → left ≡ sendLeft st (sendCall r l n bits octets) → (s : List ℕ) → s ≡ over (stateBytes left) state
+    pub send-done : k ≡ 0 → (left : LineState) → left ≡ sendLeft st (sendCall r l n bits octets) → (s : List ℕ)
+        → s ≡ over (stateBytes left) state
         → v91Send rec a n bits octets state ≡ record { answer = 0; octets = os; state = s }
     unfolding v91Send answered first
     send-done z left e s q = rw (le-ltb _ _ long, le-ltb _ _ wide, eos, q, e, ← er, ← es, ← el, ← eo, code-done o k ek z)
@@ -106,22 +120,28 @@ module _ (rec : List ℕ) (a : Bool) (n : ℕ) (bits octets state : List ℕ) wh
 -- ---- v91_receive
 
 module _ (rec : List ℕ) (a : Bool) (n : ℕ) (octets bits marks state : List ℕ) where
-  pub receive-short-record : length rec < 105 → v91Receive rec a n octets bits marks state ≡ record { answer = 16; bits = bits; marks = marks; state = state }
+  pub receive-short-record : length rec < 105 → v91Receive rec a n octets bits marks state
+      ≡ record { answer = 16; bits = bits; marks = marks; state = state }
   unfolding v91Receive answered first
   receive-short-record h = rw (lt-ltb _ _ h)
 
-  pub receive-short-state : 105 ≤ length rec → length state < 5 → v91Receive rec a n octets bits marks state ≡ record { answer = 16; bits = bits; marks = marks; state = state }
+  pub receive-short-state : 105 ≤ length rec → length state < 5 → v91Receive rec a n octets bits marks state
+      ≡ record { answer = 16; bits = bits; marks = marks; state = state }
   unfolding v91Receive answered first
   receive-short-state h g = rw (le-ltb _ _ h, lt-ltb _ _ g)
 
-  module _ (long : 105 ≤ length rec) (wide : 5 ≤ length state) (r : Record) (er : r ≡ recordAt rec) (st : LineState) (es : st ≡ stateAt state) (l : Law) (el : l ≡ lawOf a)
-      (o : Outcome) (eo : outcomeAnswer o ≡ receiveRefusal st (receiveCall r l n octets bits marks)) (k : ℕ) (ek : k ≡ coded (outcomeAnswer o)) (bs : List ℕ) (eb : bs ≡ receiveBytes st (receiveCall r l n octets bits marks))
+  module _ (long : 105 ≤ length rec) (wide : 5 ≤ length state) (r : Record) (er : r ≡ recordAt rec) (st : LineState)
+      (es : st ≡ stateAt state) (l : Law) (el : l ≡ lawOf a)
+      (o : Outcome) (eo : outcomeAnswer o ≡ receiveRefusal st (receiveCall r l n octets bits marks)) (k : ℕ)
+      (ek : k ≡ coded (outcomeAnswer o)) (bs : List ℕ) (eb : bs ≡ receiveBytes st (receiveCall r l n octets bits marks))
       (ms : List ℕ) (em : ms ≡ receiveMarked st (receiveCall r l n octets bits marks)) where
-    pub receive-refused : (k ≡ 0 → ⊥) → v91Receive rec a n octets bits marks state ≡ record { answer = k; bits = bs; marks = ms; state = state }
+    pub receive-refused : (k ≡ 0 → ⊥) → v91Receive rec a n octets bits marks state
+        ≡ record { answer = k; bits = bs; marks = ms; state = state }
     unfolding v91Receive answered first receiveBytes receiveMarked
     receive-refused p = rw (le-ltb _ _ long, le-ltb _ _ wide, eb, em, ← er, ← es, ← el, ← eo, code-refused o k ek p, ek)
 
-    pub receive-done : k ≡ 0 → (left : LineState) → left ≡ receiveLeft st (receiveCall r l n octets bits marks) → (s : List ℕ) → s ≡ over (stateBytes left) state
+    pub receive-done : k ≡ 0 → (left : LineState) → left ≡ receiveLeft st (receiveCall r l n octets bits marks) → (s : List ℕ)
+        → s ≡ over (stateBytes left) state
         → v91Receive rec a n octets bits marks state ≡ record { answer = 0; bits = bs; marks = ms; state = s }
     unfolding v91Receive answered first
     receive-done z left e s q = rw (le-ltb _ _ long, le-ltb _ _ wide, eb, em, q, e, ← er, ← es, ← el, ← eo, code-done o k ek z)

@@ -4,10 +4,12 @@ use mathlib.Core.Bool.{Bool, true, false, cond}
 use mathlib.Core.List.{List, [], _∷_}
 use Rattle.standard.specs.First.{Answer, Test, test, first}
 use Rattle.standard.specs.Refusals.{shorter}
-use Rattle.standard.specs.Calls.{accepted, over, readCall, readRefusal, readRecord, writeCall, writeRefusal, writeBitCount, writeBytes, sendCall, sendRefusal, sendLeft, sendOctets, receiveCall, receiveRefusal, receiveLeft, receiveBytes, receiveMarked}
+use Rattle.standard.specs.Calls.{accepted, over, readCall, readRefusal, readRecord, writeCall, writeRefusal, writeBitCount, writeBytes}
+use Rattle.standard.specs.Calls.{sendCall, sendRefusal, sendLeft, sendOctets, receiveCall, receiveRefusal, receiveLeft, receiveBytes}
+use Rattle.standard.specs.Calls.{receiveMarked}
 use Rattle.standard.specs.declared.Law.{Law}
 use Rattle.standard.specs.declared.Law.the-variants.{Mu, A}
-use Rattle.answer.specs.Coded.{coded}
+use Rattle.forms.specs.Coded.{coded}
 use Rattle.forms.specs.RecordBytes.{recordBytes, recordAt}
 use Rattle.forms.specs.StateBytes.{stateBytes, stateAt}
 
@@ -78,5 +80,11 @@ v91Receive rec aLaw frames octets bits marks state =
     let st = stateAt state in
     let call = receiveCall (recordAt rec) (lawOf aLaw) frames octets bits marks in
     answered (first (test 16 (shorter rec 105) ∷ test 16 (shorter state 5) ∷ otherwise (receiveRefusal st call) ∷ []))
-    (record { answer = 0; bits = receiveBytes st call; marks = receiveMarked st call; state = over (stateBytes (receiveLeft st call)) state })
+    (record {
+      answer = 0;
+      bits = receiveBytes st call;
+      marks = receiveMarked st call;
+      state = over
+          (stateBytes (receiveLeft st call)) state;
+    })
     (λ n. record { answer = n; bits = bits; marks = marks; state = state })

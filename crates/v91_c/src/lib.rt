@@ -2,7 +2,7 @@
 use standard::Law;
 ghost use mathlib.Core.Path.{_≡_};
 ghost use Rattle.standard.specs.Calls.{linearCall, linearRefusal, linearSamples};
-ghost use Rattle.answer.specs.Coded.{coded};
+ghost use Rattle.forms.specs.Coded.{coded};
 ghost use Rattle.v91_c.specs.Interface.{lawOf, v91ReadCp, v91WriteCp, v91Send, v91Receive};
 
 // The bytes of a record.
@@ -27,7 +27,7 @@ pub extern "C" fn v91_linear(a_law: bool, octets: &[u8], samples: &mut [i32]) ->
     ensures { λ r. ⌜ (r ≡ coded (linearRefusal (linearCall (lawOf «a_law») (now (octets .entry)) (now (samples .entry)))))
         × (now (samples .exit) ≡ linearSamples (linearCall (lawOf «a_law») (now (octets .entry)) (now (samples .entry)))) ⌝ }
 {
-    answer::code_of(pcm::linear(law_of(a_law), octets, samples))
+    forms::code_of(pcm::linear(law_of(a_law), octets, samples))
 }
 
 // Writes a record's CP, and answers its bit count.
@@ -41,7 +41,7 @@ pub extern "C" fn v91_write_cp(rec: &[u8], cp: &mut [u8]) -> u32
     let done = cp::write_cp(forms::record_from(rec), cp);
     let count = done.bit_count as u32;
     let outcome = done.outcome;
-    let refusal = answer::code_of(outcome);
+    let refusal = forms::code_of(outcome);
     if refusal != 0 {
         return refusal;
     }
@@ -58,7 +58,7 @@ pub extern "C" fn v91_read_cp(cp: &[u8], bit_count: usize, rec: &mut [u8]) -> u3
     }
     let read = cp::read_cp(cp, bit_count);
     let outcome = read.outcome;
-    let refusal = answer::code_of(outcome);
+    let refusal = forms::code_of(outcome);
     if refusal != 0 {
         return refusal;
     }
@@ -89,7 +89,7 @@ pub extern "C" fn v91_send(
     let line = forms::state_from(state);
     let done = codec::send(r, law_of(a_law), frames, line, bits, octets);
     let outcome = done.outcome;
-    let refusal = answer::code_of(outcome);
+    let refusal = forms::code_of(outcome);
     if refusal != 0 {
         return refusal;
     }
@@ -108,7 +108,8 @@ pub extern "C" fn v91_receive(
     marks: &mut [u8],
     state: &mut [u8],
 ) -> u32
-    ensures { λ r. ⌜ v91Receive (now (rec .entry)) «a_law» frames (now (octets .entry)) (now (bits .entry)) (now (marks .entry)) (now (state .entry))
+    ensures { λ r. ⌜ v91Receive (now (rec .entry)) «a_law» frames (now (octets .entry)) (now (bits .entry)) (now (marks .entry))
+        (now (state .entry))
         ≡ record { answer = r; bits = now (bits .exit); marks = now (marks .exit); state = now (state .exit) } ⌝ }
 {
     if rec.len() < RECORD_BYTES {
@@ -121,7 +122,7 @@ pub extern "C" fn v91_receive(
     let line = forms::state_from(state);
     let done = codec::receive(r, law_of(a_law), frames, line, octets, bits, marks);
     let outcome = done.outcome;
-    let refusal = answer::code_of(outcome);
+    let refusal = forms::code_of(outcome);
     if refusal != 0 {
         return refusal;
     }

@@ -19,7 +19,7 @@ fn put(reply: &mut [u8], at: usize, byte: u8)
 fn put_refusal(reply: &mut [u8], outcome: Outcome)
     requires { ⌜ 2 ≤ length (now reply) ⌝ }
 {
-    let code = answer::code_of(outcome);
+    let code = forms::code_of(outcome);
     put(reply, 0, (code % 256) as u8);
     put(reply, 1, (code / 0x100_0000) as u8);
 }
@@ -77,14 +77,14 @@ fn answer_with_line(call: &[u8]) -> bool {
     let mut text = [0u8; 1024];
     let mut reply = [0u8; 512];
     let made = answer_call(call, &mut reply);
-    lines::write_bytes(&reply[0..made], &mut text)
+    text::write_bytes(&reply[0..made], &mut text)
 }
 
 // Answers the next line, and returns whether there was one.
 fn answer_next() -> bool {
     let mut text = [0u8; 1024];
     let mut call = [0u8; 512];
-    let line = lines::read_bytes(&mut text, &mut call);
+    let line = text::read_bytes(&mut text, &mut call);
     if !line.found {
         return false;
     }

@@ -68,7 +68,7 @@ fn fill(buffer: &mut [u8], first: usize, step: usize)
 fn put_refusal(outcome: Outcome, reply: &mut [u8])
     requires { ⌜ 2 ≤ length (now reply) ⌝ }
 {
-    let code = answer::code_of(outcome) as u64;
+    let code = forms::code_of(outcome) as u64;
     bits::put_field(reply, 0, 8, code % 256);
     bits::put_field(reply, 8, 8, code / 0x100_0000);
 }
@@ -161,9 +161,9 @@ fn fill_samples(samples: &mut [i32])
 // A sample in two's complement.
 fn complement(value: i32) -> u64 {
     if value < 0 {
-        return 0x1_0000_0000 - signed::magnitude(value);
+        return 0x1_0000_0000 - text::magnitude(value);
     }
-    signed::magnitude(value)
+    text::magnitude(value)
 }
 
 // Puts samples, four bytes each.
@@ -230,14 +230,14 @@ fn answer_with_line(call: &[u8]) -> bool {
     let mut text = [0u8; 16384];
     let mut reply = [0u8; 8192];
     let made = answer_call(call, &mut reply);
-    lines::write_bytes(&reply[0..made], &mut text)
+    text::write_bytes(&reply[0..made], &mut text)
 }
 
 // Answers the next line, and returns whether there was one.
 fn answer_next() -> bool {
     let mut text = [0u8; 16384];
     let mut call = [0u8; 8192];
-    let line = lines::read_bytes(&mut text, &mut call);
+    let line = text::read_bytes(&mut text, &mut call);
     if !line.found {
         return false;
     }

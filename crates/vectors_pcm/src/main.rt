@@ -1,4 +1,5 @@
-// Prints V.90 Table 1, a line for each law, sign and Ucode: LAW SIGN UCODE TABLE OCTET VALUE LINEAR, with the octet as printed and by arithmetic,
+// Prints V.90 Table 1, a line for each law, sign and Ucode: LAW SIGN UCODE TABLE OCTET VALUE LINEAR, with the octet as printed and by
+// arithmetic,
 // the linear value as printed, and the signed sample by arithmetic.
 use io::print_decimal;
 use io::print_hex;
@@ -13,7 +14,7 @@ fn print_signed(value: i32) {
     if value < 0 {
         write_all(1, b"-");
     }
-    print_decimal(1, signed::magnitude(value));
+    print_decimal(1, text::magnitude(value));
 }
 
 // The line of a Ucode.

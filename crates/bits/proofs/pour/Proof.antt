@@ -18,7 +18,8 @@ returns : tie.Need-returns
 unfolding holding filling
 returns c =
     let a = c .before .before .before .before .args in
-    rw (lt-ltb _ _ (c .if1 .taken)) (ap (λ (x : ℕ). record { to = a .p .to; count = a .p .count + a .width; held = x }) (c .before .joined-word .ensures), refl)
+    rw (lt-ltb _ _ (c .if1 .taken))
+    (ap (λ (x : ℕ). record { to = a .p .to; count = a .p .count + a .width; held = x }) (c .before .joined-word .ensures), refl)
 
 put-word-requires : tie.Need-put-word-requires
 put-word-requires c κs = search needs
@@ -39,7 +40,12 @@ returns-2 : tie.Need-returns-2
 unfolding holding filling
 returns-2 c =
     let a = c .before .before .before .before .before .before .before .before .before .before .args in
-    rw (le-ltb _ _ (c .before .before .before .before .before .before .if1 .left)) (refl, word-filled (a .bytes .now) _ (a .p) (a .value) _ (c .before .before .before .before .before .before .before .joined-word .ensures) (c .before .before .before .before .put-word .ensures))
+    rw (le-ltb _ _ (c .before .before .before .before .before .before .if1 .left)) (
+      refl,
+      word-filled (a .bytes .now) _ (a .p) (a .value) _
+          (c .before .before .before .before .before .before .before .joined-word .ensures)
+          (c .before .before .before .before .put-word .ensures),
+    )
 
 pub pour-spec : {M : Type 1} → statement M
 pour-spec =

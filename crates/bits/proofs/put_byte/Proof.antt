@@ -16,7 +16,8 @@ same-length c = search needs
 returns : tie.Need-returns
 returns c =
     let a = c .before .before .args in
-    rw (c .low-byte .ensures) (putField-byte (a .bytes .now) (a .i) (a .word) (λ i. c .before .slice-known .given i .fits) (c .before .before .pre))
+    rw (c .low-byte .ensures)
+    (putField-byte (a .bytes .now) (a .i) (a .word) (λ i. c .before .slice-known .given i .fits) (c .before .before .pre))
 
 pub put-byte-spec : {M : Type 1} → statement M
 put-byte-spec = tie.close (tie.spec low-byte-requires slice-write-bytes same-length returns)

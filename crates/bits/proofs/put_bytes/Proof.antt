@@ -47,7 +47,8 @@ loop-again c =
       omega arith,
       call .kept .0 ∙ l .inv .1,
       putField-step (a .bytes .now) (l .bytes) (call .last .0) (8 * a .i) (8 * l .j) 8 (a .word) (l .inv .2)
-          (call .ensures ∙ ap (λ (q : ℕ). putField (l .bytes) q 8 (a .word / 2 ^ (8 * l .j))) p) ∙ ap (λ (k : ℕ). putField (a .bytes .now) (8 * a .i) k (a .word)) n,
+          (call .ensures ∙ ap (λ (q : ℕ). putField (l .bytes) q 8 (a .word / 2 ^ (8 * l .j))) p)
+          ∙ ap (λ (k : ℕ). putField (a .bytes .now) (8 * a .i) k (a .word)) n,
     )
 
 same-length : tie.Need-same-length Inv-loop μ-loop

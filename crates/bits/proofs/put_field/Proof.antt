@@ -44,8 +44,10 @@ returns-2 : tie.Need-returns-2
 returns-2 c =
     let a = c .before .before .before .before .before .before .before .before .before .args in
     let s = a .bytes .now in
-    put-back s _ (a .at) 64 _ _ (a .width) (a .value) (omega arith) (omega (arith, inside (c .before .before .before .before .before .before .before) .1))
-    (λ j l. ap (λ (x : ℕ). bit x j) (c .before .before .before .before .before .word-at .ensures) ∙ field-bit (bitAt s) (8 * (a .at / 8)) 64 j l)
+    put-back s _ (a .at) 64 _ _ (a .width) (a .value) (omega arith)
+    (omega (arith, inside (c .before .before .before .before .before .before .before) .1))
+    (λ j l. ap (λ (x : ℕ). bit x j) (c .before .before .before .before .before .word-at .ensures)
+    ∙ field-bit (bitAt s) (8 * (a .at / 8)) 64 j l)
     (c .before .before .before .word-with .ensures) (c .before .before .put-word .ensures)
 
 pub put-field-spec : {M : Type 1} → statement M

@@ -21,8 +21,11 @@ returns c =
     let b = c .before in
     let a = b .args in
     let w = c .wide .ensures in
-    let small = rw (w .0) at (w .1) in
-    (ap (λ (x : ℕ). bitOr (a .word) (x * 2 ^ (8 * a .k) % 2 ^ 64)) (w .0) ∙ byte-joined (a .word) (a .k) (a .byte) (b .pre .0) (b .pre .1) small, small)
+    let small = rw (w .0) at (w .1) in (
+      ap (λ (x : ℕ). bitOr (a .word) (x * 2 ^ (8 * a .k) % 2 ^ 64)) (w .0) ∙ byte-joined (a .word) (a .k) (a .byte) (b .pre .0)
+          (b .pre .1) small,
+      small,
+    )
 
 pub with-byte-spec : {M : Type 1} → statement M
 with-byte-spec = tie.close (tie.spec wide-requires mul-result shl-result returns)

@@ -27,7 +27,8 @@ bytes-at-requires : tie.Need-bytes-at-requires
 bytes-at-requires c κs = search needs
 
 returns-3 : tie.Need-returns-3
-returns-3 c = let a = c .before .before .before .before .args in word-last (a .bytes .now) (a .i) _ _ (omega arith) (omega arith) (c .bytes-at .ensures)
+returns-3 c = let a = c .before .before .before .before .args in word-last (a .bytes .now) (a .i) _ _ (omega arith) (omega arith)
+    (c .bytes-at .ensures)
 
 pub word-from-spec : {M : Type 1} → statement M
 word-from-spec =

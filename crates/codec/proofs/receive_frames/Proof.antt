@@ -31,8 +31,8 @@ abbrev μ-loop : tie.MeasureT-loop
 draw-up-requires : tie.Need-draw-up-requires Inv-loop μ-loop
 draw-up-requires c κs = (c .before .before .before .before .before .pre .0 .index, refl, refl)
 
-frame-width-requires : tie.Need-frame-width-requires Inv-loop μ-loop
-frame-width-requires c κs = tt
+d-of-requires : tie.Need-d-of-requires Inv-loop μ-loop
+d-of-requires c κs = tt
 
 carry-requires : tie.Need-carry-requires Inv-loop μ-loop
 carry-requires c κs = c .before .before .before .before .before .before .before .pre .0 .history
@@ -52,36 +52,42 @@ loop-holds c =
       c .carry .ensures .1,
       record { few = omega arith; small = omega arith },
       omega arith,
-      λ r d. rw empty (receive-start r (a .law) (a .frames) (stateOf (c .carry .result)) (a .octets .now) (a .bytes .now) (a .marks .now) (byte (c .before .before .before .before .before .before))),
+      λ r d. rw empty
+          (receive-start r (a .law) (a .frames) (stateOf (c .carry .result)) (a .octets .now) (a .bytes .now) (a .marks .now)
+          (byte (c .before .before .before .before .before .before))),
     )
 
 -- what the call draws up is drawn up of the record r
 abbrev Of : tie.After-carry Inv-loop μ-loop → Record → Type 0
 Of c r =
     let a = start c .args in
-    Drawn labelTables r (stateOf (c .carry .result)) (a .frames) (c .before .frame-width .result) (c .before .before .draw-up .result) (c .before .before .draw-up .last .1 .1 .0)
+    Drawn labelTables r (stateOf (c .carry .result)) (a .frames) (c .before .d-of .result) (c .before .before .draw-up .result)
+    (c .before .before .draw-up .last .1 .1 .0)
 
 drawn : (c : tie.After-carry Inv-loop μ-loop) → Of c (start c .args .r)
 drawn c =
     let e = c .before .before .draw-up .ensures in
-    record { allowed = rw (c .carry .ensures .0) (start c .pre .0); wide = c .before .frame-width .ensures; mapped = e .0; tabled = e .2 }
+    record { allowed = rw (c .carry .ensures .0) (start c .pre .0); wide = c .before .d-of .ensures; mapped = e .0; tabled = e .2 }
 
 -- the turn is one of 1,024 at most
 few : (c : tie.In-loop Inv-loop μ-loop) → c .before .loop .n < 1024
 few c = omega (arith, start (c .before .before) .pre .0 .few)
 
 -- a frame has no more data bits than these
-wide : (c : tie.After-carry Inv-loop μ-loop) → c .before .frame-width .result ≤ 48
+wide : (c : tie.After-carry Inv-loop μ-loop) → c .before .d-of .result ≤ 48
 wide c =
     let b = start c in
-    few-bits (b .args .r) 0 (b .args .frames) (c .before .frame-width .result) (omega arith) (b .pre .0 .few) (c .before .frame-width .ensures) (b .pre .0 .rate) .0
+    few-bits (b .args .r) 0 (b .args .frames) (c .before .d-of .result) (omega arith) (b .pre .0 .few) (c .before .d-of .ensures)
+    (b .pre .0 .rate) .0
 
 -- the data buffer is as long as it was lent
 long : (c : tie.At-loop Inv-loop μ-loop) → length (c .loop .bytes) ≡ length (start (c .before) .args .bytes .now)
 long c = sym (length-poured (c .loop .bytes) (c .loop .pouring)) ∙ c .loop .inv .3 _ (drawn (c .before)) .longBits
 
 -- the next frame can be received, with each such record
-able : (c : tie.In-loop Inv-loop μ-loop) (r : Record) → Of (c .before .before) r → Receivable r (c .before .before .before .before .draw-up .result) (c .before .before .before .before .draw-up .last .1 .1 .0) (c .before .loop .line)
+able : (c : tie.In-loop Inv-loop μ-loop) (r : Record) → Of (c .before .before) r
+    → Receivable r (c .before .before .before .before .draw-up .result) (c .before .before .before .before .draw-up .last .1 .1 .0)
+    (c .before .loop .line)
 able c r d =
     let a = start (c .before .before) .args in
     let l = c .before .loop in
@@ -104,19 +110,32 @@ part-receive-frame-end c = omega (arith, start (c .before .before .before) .pre 
 
 receive-frame-requires : tie.Need-receive-frame-requires Inv-loop μ-loop
 receive-frame-requires c κs =
-    let b = start (c .before .before .before .before) in
-    ((_, able (c .before .before) _ (drawn (c .before .before .before .before))), six-long (b .args .octets .now) (c .before .before .before .loop .n) (b .args .frames) (omega arith) (b .pre .1))
+    let b = start (c .before .before .before .before) in (
+      (_, able (c .before .before) _ (drawn (c .before .before .before .before))),
+      six-long (b .args .octets .now)
+          (c .before .before .before .loop .n) (b .args .frames) (omega arith) (b .pre .1),
+    )
 
 pour-requires : tie.Need-pour-requires Inv-loop μ-loop
 pour-requires c κs =
     let b = start (c .before .before .before .before .before .before) in
     let a = b .args in
     let l = c .before .before .before .before .before .loop in
-    let room = bits-room (a .r) (l .n) (a .frames) _ (length (a .bytes .now)) (omega arith) (drawn (c .before .before .before .before .before .before) .wide) (b .pre .2) in
-    (l .inv .1, omega (arith, wide (c .before .before .before .before .before .before)), omega (arith, room, long (c .before .before .before .before .before), l .inv .2))
+    let room = bits-room (a .r) (l .n) (a .frames) _ (length (a .bytes .now)) (omega arith)
+    (drawn (c .before .before .before .before .before .before) .wide) (b .pre .2) in (
+      l .inv .1,
+      omega (arith, wide (c .before .before .before .before .before .before)),
+      omega
+          (arith, room, long (c .before .before .before .before .before), l .inv .2),
+    )
 
 slice-write-marks : tie.Need-slice-write-marks Inv-loop μ-loop
-slice-write-marks c = omega (arith, start (c .before .before .before .before .before .before .before .before .before) .pre .3, c .before .before .before .before .before .before .before .before .loop .inv .3 _ (drawn (c .before .before .before .before .before .before .before .before .before)) .longMarks)
+slice-write-marks c = omega (
+  arith,
+  start (c .before .before .before .before .before .before .before .before .before) .pre .3,
+  c .before .before .before .before .before .before .before .before .loop .inv .3 _
+      (drawn (c .before .before .before .before .before .before .before .before .before)) .longMarks,
+)
 
 add-n : tie.Need-add-n Inv-loop μ-loop
 add-n c = omega (arith, few (c .before .before .before .before .before .before .before .before))
@@ -132,30 +151,35 @@ loop-again c =
     let b = start (c .before .before .before .before .before .before .before .before .before .before) in
     let a = b .args in
     let l = c .before .before .before .before .before .before .before .before .before .loop in
-    let w = c .before .before .before .before .before .before .before .before .before .before .before .frame-width .result in
+    let w = c .before .before .before .before .before .before .before .before .before .before .before .d-of .result in
     let e = c .before .before .before .pour .ensures in
     let got = c .before .before .before .before .before .receive-frame .ensures in
     let d = drawn (c .before .before .before .before .before .before .before .before .before .before) in
     let x = got _ (able (c .before .before .before .before .before .before .before .before) _ d) in
     let fits = word-fits (a .r) (a .law) (stateOf (l .line)) _ _ w (x .3) (d .wide) in
-    let put = pours (l .bytes) (l .pouring) w _ (l .inv .1) fits (omega (arith, wide (c .before .before .before .before .before .before .before .before .before .before))) _ _ (e .0) (e .1) in (
+    let put = pours (l .bytes) (l .pouring) w _ (l .inv .1) fits
+    (omega (arith, wide (c .before .before .before .before .before .before .before .before .before .before))) _ _ (e .0) (e .1) in (
       x .2,
       put .0,
       put .1 ∙ ap (λ (x : ℕ). x + w) (l .inv .2) ∙ next (l .n) w,
       λ r d.
           let x = got r (able (c .before .before .before .before .before .before .before .before) r d) in
-          receive-more r (a .law) (a .frames) _ (a .octets .now) (a .bytes .now) (a .marks .now) (l .n) _ _ w _ (stateOf (l .line)) _ _ _ (l .marks) _ (l .inv .3 r d)
+          receive-more r (a .law) (a .frames) _ (a .octets .now) (a .bytes .now) (a .marks .now) (l .n) _ _ w _ (stateOf (l .line)) _ _ _
+          (l .marks) _ (l .inv .3 r d)
           (omega arith) (b .pre .1) (b .pre .3) refl (x .0) (x .1) (x .3) (d .wide) (l .inv .2) (put .2),
     )
 
 -- at the end every bit of the call is poured
-used : (c : tie.After-loop Inv-loop μ-loop) → 8 * c .before .loop .pouring .to + c .before .loop .pouring .count ≡ dataBits (start (c .before .before) .args .r) (start (c .before .before) .args .frames)
+used : (c : tie.After-loop Inv-loop μ-loop) → 8 * c .before .loop .pouring .to + c .before .loop .pouring .count
+    ≡ dataBits (start (c .before .before) .args .r) (start (c .before .before) .args .frames)
 used c =
-    let e : c .before .loop .n ≡ start (c .before .before) .args .frames = omega (arith, c .before .loop .inv .3 _ (drawn (c .before .before)) .done) in
-    c .before .loop .inv .2 ∙ ap₂ _*_ e (c .before .before .before .frame-width .ensures)
+    let e : c .before .loop .n ≡ start (c .before .before) .args .frames = omega
+    (arith, c .before .loop .inv .3 _ (drawn (c .before .before)) .done) in
+    c .before .loop .inv .2 ∙ ap₂ _*_ e (c .before .before .before .d-of .ensures)
 
 pour-out-requires : tie.Need-pour-out-requires Inv-loop μ-loop
-pour-out-requires c κs = (c .before .before .loop .inv .1, omega (arith, start (c .before .before .before) .pre .2, long (c .before .before), used (c .before)))
+pour-out-requires c κs =
+    (c .before .before .loop .inv .1, omega (arith, start (c .before .before .before) .pre .2, long (c .before .before), used (c .before)))
 
 state-of-requires : tie.Need-state-of-requires Inv-loop μ-loop
 state-of-requires c κs = tt
@@ -164,7 +188,8 @@ same-length : tie.Need-same-length Inv-loop μ-loop
 same-length c = c .before .before .before .pour-out .kept .0 ∙ long (c .before .before .before .before .before .before)
 
 same-length-2 : tie.Need-same-length-2 Inv-loop μ-loop
-same-length-2 c = c .before .before .before .before .before .before .loop .inv .3 _ (drawn (c .before .before .before .before .before .before .before)) .longMarks
+same-length-2 c = c .before .before .before .before .before .before .loop .inv .3 _
+    (drawn (c .before .before .before .before .before .before .before)) .longMarks
 
 returns : tie.Need-returns Inv-loop μ-loop
 returns c =
@@ -172,17 +197,23 @@ returns c =
     let a = b .args in
     let l = c .before .before .before .before .before .before .loop in
     let N = a .frames in
-    let w = c .before .before .before .before .before .before .before .before .frame-width in
+    let w = c .before .before .before .before .before .before .before .before .d-of in
     let os = take (6 * N) (a .octets .now) in
     let e = c .before .before .before .before .before .before .before .carry .ensures .0 in
-    let whole : 8 * l .pouring .to + l .pouring .count ≡ N * w .result = used (c .before .before .before .before .before) ∙ ap (λ (x : ℕ). N * x) (sym (w .ensures)) in
+    let whole : 8 * l .pouring .to + l .pouring .count ≡ N * w .result = used (c .before .before .before .before .before)
+    ∙ ap (λ (x : ℕ). N * x) (sym (w .ensures)) in
     let rest : 8 * bytesFor (l .pouring .count) - l .pouring .count ≡ 8 * bytesFor (N * w .result) - N * w .result = omega arith in
     let all =
-    receive-all (a .r) (a .law) N _ (a .octets .now) (a .bytes .now) (a .marks .now) (l .n) (w .result) (stateOf (l .line)) _ _ (l .marks) (l .inv .3 _ (drawn (c .before .before .before .before .before .before .before)))
-    (omega arith) (byte (c .before .before .before .before .before .before .before .before .before .before .before .before .before)) (b .pre .2) (w .ensures)
-    (poured-out (l .bytes) _ (l .pouring) (l .inv .1) (c .before .before .before .pour-out .ensures) ∙ ap₂ (λ (x k : ℕ). putField (poured (l .bytes) (l .pouring)) x k 0) whole rest) in (
+    receive-all (a .r) (a .law) N _ (a .octets .now) (a .bytes .now) (a .marks .now) (l .n) (w .result) (stateOf (l .line)) _ _ (l .marks)
+    (l .inv .3 _ (drawn (c .before .before .before .before .before .before .before)))
+    (omega arith) (byte (c .before .before .before .before .before .before .before .before .before .before .before .before .before))
+    (b .pre .2) (w .ensures)
+    (poured-out (l .bytes) _ (l .pouring) (l .inv .1) (c .before .before .before .pour-out .ensures)
+    ∙ ap₂ (λ (x k : ℕ). putField (poured (l .bytes) (l .pouring)) x k 0) whole rest) in (
       c .state-of .ensures ∙ all .0 ∙ ap (λ (st : LineState). receiveAfter (a .r) (a .law) N st os) e,
-      all .1 ∙ ap (λ (st : LineState). over (bytesOf (bytesFor (dataBits (a .r) N)) (nth (receiveFrames (a .r) (a .law) N st os))) (a .bytes .now)) e,
+      all .1 ∙ ap
+          (λ (st : LineState). over (bytesOf (bytesFor (dataBits (a .r) N)) (nth (receiveFrames (a .r) (a .law) N st os))) (a .bytes .now))
+          e,
       all .2,
     )
 
@@ -193,7 +224,7 @@ receive-frames-spec =
     Inv-loop
     μ-loop
     draw-up-requires
-    frame-width-requires
+    d-of-requires
     carry-requires
     loop-holds
     mul-at

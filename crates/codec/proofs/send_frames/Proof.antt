@@ -18,7 +18,8 @@ use Rattle.codec.proofs.send_frames.Tie as tie
 abbrev Inv-loop : tie.InvT-loop
 Inv-loop law frames bytes octets₀ points mapping inverses width line₀ n₀ octets line n =
     (line .past < 2 ^ 23)
-    × ((r : Record) → Drawn pointTables r (stateOf line₀) frames width mapping points → Sending r law frames (stateOf line₀) (bitsIn (dataBits r frames) bytes) octets₀ n (stateOf line) octets)
+    × ((r : Record) → Drawn pointTables r (stateOf line₀) frames width mapping points
+    → Sending r law frames (stateOf line₀) (bitsIn (dataBits r frames) bytes) octets₀ n (stateOf line) octets)
 
 abbrev μ-loop : tie.MeasureT-loop
 μ-loop law frames bytes octets₀ points mapping inverses width line₀ n₀ octets line n = frames - n
@@ -29,8 +30,8 @@ draw-up-requires c κs = (c .before .before .before .before .pre .0 .index, refl
 reciprocals-of-requires : tie.Need-reciprocals-of-requires Inv-loop μ-loop
 reciprocals-of-requires c κs = tt
 
-frame-width-requires : tie.Need-frame-width-requires Inv-loop μ-loop
-frame-width-requires c κs = tt
+d-of-requires : tie.Need-d-of-requires Inv-loop μ-loop
+d-of-requires c κs = tt
 
 carry-requires : tie.Need-carry-requires Inv-loop μ-loop
 carry-requires c κs = c .before .before .before .before .before .before .before .before .pre .0 .history
@@ -48,17 +49,20 @@ loop-holds c =
 abbrev Of : tie.After-carry Inv-loop μ-loop → Record → Type 0
 Of c r =
     let a = start c .args in
-    Drawn pointTables r (stateOf (c .carry .result)) (a .frames) (c .before .frame-width .result) (c .before .before .before .before .draw-up .result) (c .before .before .before .before .draw-up .last .1 .0)
+    Drawn pointTables r (stateOf (c .carry .result)) (a .frames) (c .before .d-of .result)
+    (c .before .before .before .before .draw-up .result) (c .before .before .before .before .draw-up .last .1 .0)
 
 drawn : (c : tie.After-carry Inv-loop μ-loop) → Of c (start c .args .r)
 drawn c =
     let e = c .before .before .before .before .draw-up .ensures in
-    record { allowed = rw (c .carry .ensures .0) (start c .pre .0); wide = c .before .frame-width .ensures; mapped = e .0; tabled = e .1 }
+    record { allowed = rw (c .carry .ensures .0) (start c .pre .0); wide = c .before .d-of .ensures; mapped = e .0; tabled = e .1 }
 
-bits-in : (c : tie.In-loop Inv-loop μ-loop) → (c .before .before .before .frame-width .result ≤ 48) × (c .before .loop .n * c .before .before .before .frame-width .result ≤ 49152)
+bits-in : (c : tie.In-loop Inv-loop μ-loop) → (c .before .before .before .d-of .result ≤ 48)
+    × (c .before .loop .n * c .before .before .before .d-of .result ≤ 49152)
 bits-in c =
     let b = start (c .before .before) in
-    few-bits (b .args .r) (c .before .loop .n) (b .args .frames) (c .before .before .before .frame-width .result) (omega arith) (b .pre .0 .few) (c .before .before .before .frame-width .ensures) (b .pre .0 .rate)
+    few-bits (b .args .r) (c .before .loop .n) (b .args .frames) (c .before .before .before .d-of .result) (omega arith) (b .pre .0 .few)
+    (c .before .before .before .d-of .ensures) (b .pre .0 .rate)
 
 -- the turn is one of 1,024 at most, and the octets are as many as were lent
 turn : (c : tie.In-loop Inv-loop μ-loop) → (c .before .loop .n < 1024) × (6 * c .before .loop .n + 6 ≤ length (c .before .loop .octets))
@@ -68,11 +72,14 @@ turn c =
 
 -- the next frame can be sent, with each such record
 able : (c : tie.In-loop Inv-loop μ-loop) (r : Record) → Of (c .before .before) r
-    → Sendable r (c .before .before .before .before .before .before .draw-up .result) (c .before .before .before .before .reciprocals-of .result) (c .before .before .before .before .before .before .draw-up .last .1 .0) (c .before .loop .line)
+    → Sendable r (c .before .before .before .before .before .before .draw-up .result)
+    (c .before .before .before .before .reciprocals-of .result) (c .before .before .before .before .before .before .draw-up .last .1 .0)
+    (c .before .loop .line)
 able c r d =
     let a = start (c .before .before) .args in
     let l = c .before .loop in
-    sendable r (a .law) (a .frames) _ (a .bytes .now) (a .octets .now) (l .n) _ _ _ _ (l .line) d (omega arith) (c .before .before .before .before .reciprocals-of .ensures) (l .inv .0)
+    sendable r (a .law) (a .frames) _ (a .bytes .now) (a .octets .now) (l .n) _ _ _ _ (l .line) d (omega arith)
+    (c .before .before .before .before .reciprocals-of .ensures) (l .inv .0)
 
 mul-field-at : tie.Need-mul-field-at Inv-loop μ-loop
 mul-field-at c = omega (arith, bits-in c .1)
@@ -97,8 +104,11 @@ part-send-frame-end c = omega (arith, turn (c .before .before) .1)
 
 send-frame-requires : tie.Need-send-frame-requires Inv-loop μ-loop
 send-frame-requires c κs =
-    let l = c .before .before .before .before .loop in
-    ((_, able (c .before .before .before) _ (drawn (c .before .before .before .before .before))), six-long (l .octets) (l .n) (l .n + 1) (omega arith) (omega (arith, turn (c .before .before .before) .1)))
+    let l = c .before .before .before .before .loop in (
+      (_, able (c .before .before .before) _ (drawn (c .before .before .before .before .before))),
+      six-long (l .octets) (l .n) (l .n + 1)
+          (omega arith) (omega (arith, turn (c .before .before .before) .1)),
+    )
 
 add-n : tie.Need-add-n Inv-loop μ-loop
 add-n c = omega arith
@@ -112,11 +122,15 @@ loop-again c =
     let a = b .args in
     let l = c .before .before .before .before .before .before .before .loop in
     let call = c .before .before .send-frame in (
-      call .ensures _ (able (c .before .before .before .before .before .before) _ (drawn (c .before .before .before .before .before .before .before .before))) .2,
+      call .ensures _
+          (able (c .before .before .before .before .before .before) _
+          (drawn (c .before .before .before .before .before .before .before .before))) .2,
       λ r d.
           let sent = call .ensures r (able (c .before .before .before .before .before .before) r d) in
-          send-more r (a .law) (a .frames) _ (a .bytes .now) (a .octets .now) (l .n) _ (stateOf (l .line)) (stateOf (call .result)) (l .octets) _ (l .inv .1 r d)
-          (omega arith) (b .pre .1) (c .before .before .before .before .before .field-at .ensures ∙ ap (λ (w : ℕ). field (bitAt (a .bytes .now)) (l .n * w) w) (d .wide)) (sent .1) (sent .0),
+          send-more r (a .law) (a .frames) _ (a .bytes .now) (a .octets .now) (l .n) _ (stateOf (l .line)) (stateOf (call .result))
+          (l .octets) _ (l .inv .1 r d)
+          (omega arith) (b .pre .1) (c .before .before .before .before .before .field-at .ensures
+          ∙ ap (λ (w : ℕ). field (bitAt (a .bytes .now)) (l .n * w) w) (d .wide)) (sent .1) (sent .0),
     )
 
 state-of-requires : tie.Need-state-of-requires Inv-loop μ-loop
@@ -131,7 +145,8 @@ returns c =
     let l = c .before .before .loop in
     let ds = bitsIn (dataBits (a .r) (a .frames)) (a .bytes .now) in
     let e = c .before .before .before .carry .ensures .0 in
-    let all = send-all (a .r) (a .law) (a .frames) _ (a .bytes .now) (a .octets .now) (l .n) (stateOf (l .line)) (l .octets) (l .inv .1 _ (drawn (c .before .before .before))) (omega arith) in (
+    let all = send-all (a .r) (a .law) (a .frames) _ (a .bytes .now) (a .octets .now) (l .n) (stateOf (l .line)) (l .octets)
+    (l .inv .1 _ (drawn (c .before .before .before))) (omega arith) in (
       c .state-of .ensures ∙ all .0 ∙ ap (λ (st : LineState). sendAfter (a .r) (a .frames) st ds) e,
       all .1 ∙ ap (λ (st : LineState). over (sendFrames (a .r) (a .law) (a .frames) st ds) (a .octets .now)) e,
     )
@@ -144,7 +159,7 @@ send-frames-spec =
     μ-loop
     draw-up-requires
     reciprocals-of-requires
-    frame-width-requires
+    d-of-requires
     carry-requires
     loop-holds
     mul-field-at

@@ -10,7 +10,8 @@ field-at-requires : tie.Need-field-at-requires
 field-at-requires c κs = search needs
 
 cast-result : tie.Need-cast-result
-cast-result c = let a = c .before .before .args in omega (arith, field-small (bitAt (a .cp .now)) (a .at) (a .width) 8 (omega arith), c .field-at .ensures)
+cast-result c = let a = c .before .before .args in omega
+    (arith, field-small (bitAt (a .cp .now)) (a .at) (a .width) 8 (omega arith), c .field-at .ensures)
 
 returns : tie.Need-returns
 returns c = c .field-at .ensures

@@ -21,10 +21,12 @@ indexed c = sym (c .before .index-too-large .ensures) ∙ c .if1 .left
 
 -- what the stage of 5 to 8 answers
 sequence : (c : tie.After-sequence-fault) → outcomeAnswer (c .sequence-fault .result)
-    ≡ first (sequenceTests (bitAt (c .before .before .before .before .before .args .cp .now)) (c .before .before .before .before .before .args .bit-count) (topIndex (c .before .before .before .before .before .args .r)))
+    ≡ first (sequenceTests (bitAt (c .before .before .before .before .before .args .cp .now))
+    (c .before .before .before .before .before .args .bit-count) (topIndex (c .before .before .before .before .before .args .r)))
 sequence c =
     let a = c .before .before .before .before .before .args in
-    c .sequence-fault .ensures ∙ ap (λ (g : ℕ). first (sequenceTests (bitAt (a .cp .now)) (a .bit-count) g)) (c .before .largest-index .ensures)
+    c .sequence-fault .ensures ∙ ap (λ (g : ℕ). first (sequenceTests (bitAt (a .cp .now)) (a .bit-count) g))
+    (c .before .largest-index .ensures)
 
 index-too-large-requires : tie.Need-index-too-large-requires
 index-too-large-requires c κs = search needs
@@ -40,7 +42,8 @@ cast-sequence-fault : tie.Need-cast-sequence-fault
 cast-sequence-fault c = search needs
 
 sequence-fault-requires : tie.Need-sequence-fault-requires
-sequence-fault-requires c κs = let r = c .before .before .before .before .args .r in omega (arith, top-lt r (indexed (c .before)), c .largest-index .ensures)
+sequence-fault-requires c κs =
+    let r = c .before .before .before .before .args .r in omega (arith, top-lt r (indexed (c .before)), c .largest-index .ensures)
 
 enum-told : tie.Need-enum-told
 enum-told c = search needs
@@ -50,20 +53,23 @@ unfolding contentTests
 returns-2 c =
     let a = c .before .before .before .before .before .before .before .args in
     first-skip _ _ (indexed (c .before .before .before .before))
-    (stage-hit (c .before .before .sequence-fault .result) _ (sequenceTests (bitAt (a .cp .now)) (a .bit-count) (topIndex (a .r))) (rateTests (a .r)) (c .enum-told .given .1) (sequence (c .before .before)))
+    (stage-hit (c .before .before .sequence-fault .result) _ (sequenceTests (bitAt (a .cp .now)) (a .bit-count) (topIndex (a .r)))
+    (rateTests (a .r)) (c .enum-told .given .1) (sequence (c .before .before)))
 
 enum-told-2 : tie.Need-enum-told-2
 enum-told-2 c = search needs
 
 rate-fault-requires : tie.Need-rate-fault-requires
-rate-fault-requires c κs = index-le (c .before .before .before .before .before .before .before .args .r) (indexed (c .before .before .before .before))
+rate-fault-requires c κs =
+    index-le (c .before .before .before .before .before .before .before .args .r) (indexed (c .before .before .before .before))
 
 returns-3 : tie.Need-returns-3
 unfolding contentTests sequenceTests
 returns-3 c =
     let a = c .before .before .before .before .before .before .before .before .args in
     first-skip _ _ (indexed (c .before .before .before .before .before))
-    (stage-past (c .before .before .before .sequence-fault .result) (sequenceTests (bitAt (a .cp .now)) (a .bit-count) (topIndex (a .r))) (rateTests (a .r)) tt (c .before .enum-told2 .given .1) (sequence (c .before .before .before)) (c .rate-fault .ensures))
+    (stage-past (c .before .before .before .sequence-fault .result) (sequenceTests (bitAt (a .cp .now)) (a .bit-count) (topIndex (a .r)))
+    (rateTests (a .r)) tt (c .before .enum-told2 .given .1) (sequence (c .before .before .before)) (c .rate-fault .ensures))
 
 pub content-fault-spec : {M : Type 1} → statement M
 content-fault-spec =

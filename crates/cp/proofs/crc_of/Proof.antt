@@ -54,7 +54,8 @@ loop-again c =
     let l = c .before .before .before .loop in
     let f = bitAt (c .before .before .before .before .before .args .cp .now) in (
       omega arith,
-      c .crc-word .ensures ∙ ap₂ (λ (x w : ℕ). after crcStep x (bitsOf 16 w)) (l .inv .1) (c .before .field-at .ensures) ∙ crc-word f (l .i),
+      c .crc-word .ensures ∙ ap₂ (λ (x w : ℕ). after crcStep x (bitsOf 16 w)) (l .inv .1) (c .before .field-at .ensures)
+          ∙ crc-word f (l .i),
     )
 
 returns : tie.Need-returns Inv-loop μ-loop

@@ -16,7 +16,8 @@ crc-eight-requires-2 c κs = search needs
 returns : tie.Need-returns
 returns c =
     let a = c .before .before .args in
-    c .crc-eight2 .ensures ∙ ap (crcZeros 8) (c .before .crc-eight .ensures) ∙ word-taken (a .register) (a .word) (omega arith) (omega arith)
+    c .crc-eight2 .ensures ∙ ap (crcZeros 8) (c .before .crc-eight .ensures) ∙ word-taken (a .register) (a .word) (omega arith)
+    (omega arith)
 
 pub crc-word-spec : {M : Type 1} → statement M
 crc-word-spec = tie.close (tie.spec crc-eight-requires crc-eight-requires-2 returns)

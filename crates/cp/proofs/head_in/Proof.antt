@@ -18,7 +18,12 @@ bit-at-requires-2 c κs = search needs
 
 returns : tie.Need-returns
 unfolding headIn
-returns c = rw (c .before .before .bit-at .ensures, c .before .byte-field .ensures, c .bit-at2 .ensures, c .before .before .before .indices-in .ensures)
+returns c = rw (
+  c .before .before .bit-at .ensures,
+  c .before .byte-field .ensures,
+  c .bit-at2 .ensures,
+  c .before .before .before .indices-in .ensures,
+)
 
 pub head-in-spec : {M : Type 1} → statement M
 head-in-spec =

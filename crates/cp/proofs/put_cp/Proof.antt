@@ -46,7 +46,8 @@ returns c =
     let c2 = c3 .before .before .before .before in
     let c1 = c2 .before .before in
     cp-put (c1 .before .before .args .r) (c1 .largest-index .result) (c5 .crc-of .result) (c1 .before .before .args .cp .now) _ _ _ _
-    (c1 .before .before .pre .1) (c1 .largest-index .ensures) (c2 .clear .ensures) (c3 .put-masks .ensures) (c4 .put-head .ensures) (c5 .crc-of .ensures) (c6 .put-field .ensures)
+    (c1 .before .before .pre .1) (c1 .largest-index .ensures) (c2 .clear .ensures) (c3 .put-masks .ensures) (c4 .put-head .ensures)
+    (c5 .crc-of .ensures) (c6 .put-field .ensures)
 
 pub put-cp-spec : {M : Type 1} → statement M
 put-cp-spec =

@@ -44,8 +44,13 @@ loop-less c = omega arith
 loop-again : tie.Need-loop-again Inv-loop μ-loop
 loop-again c =
     let l = c .before .before .before .before .before .loop in
-    let call = c .before .before .put-run in
-    (omega arith, call .kept .0 ∙ l .inv .1, run-more _ (l .cp) _ (c .before .before .before .before .before .before .before .before .before .args .r .mask) (l .k) _ (omega arith) (l .inv .0) (l .inv .2) (call .ensures))
+    let call = c .before .before .put-run in (
+      omega arith,
+      call .kept .0 ∙ l .inv .1,
+      run-more _ (l .cp) _
+          (c .before .before .before .before .before .before .before .before .before .args .r .mask) (l .k) _ (omega arith) (l .inv .0)
+          (l .inv .2) (call .ensures),
+    )
 
 same-length : tie.Need-same-length Inv-loop μ-loop
 same-length c = c .before .loop .inv .1
@@ -55,7 +60,8 @@ returns c =
     let a = c .before .before .before .before .before .args in
     let l = c .before .loop in
     let e : l .k ≡ 0 = omega arith in
-    let n : 8 * (c .before .before .largest-index .result + 1) - 0 ≡ 8 * (topIndex (a .r) + 1) = omega (arith, c .before .before .largest-index .ensures) in
+    let n : 8 * (c .before .before .largest-index .result + 1) - 0 ≡ 8 * (topIndex (a .r) + 1) = omega
+    (arith, c .before .before .largest-index .ensures) in
     l .inv .2 ∙ ap (putFields (a .cp .now)) (rw (e, n) (sym (mask-fields (a .r))))
 
 pub put-masks-spec : {M : Type 1} → statement M

@@ -13,11 +13,16 @@ use Rattle.cp.proofs.read_cp.Statement.{statement}
 use Rattle.cp.proofs.read_cp.Tie as tie
 
 -- what the stage of 4 on answers for all
-content : (c : tie.After-content-fault) → outcomeAnswer (c .content-fault .result) ≡ readRefusal (readCall (c .before .before .before .before .before .before .args .cp .now) (c .before .before .before .before .before .before .args .bit-count))
+content : (c : tie.After-content-fault) → outcomeAnswer (c .content-fault .result)
+    ≡ readRefusal
+    (readCall (c .before .before .before .before .before .before .args .cp .now)
+    (c .before .before .before .before .before .before .args .bit-count))
 content c =
     let a = c .before .before .before .before .before .before .args in
-    past-shape (a .cp .now) (a .bit-count) (c .before .before .before .before .shape-fault .result) (c .before .before .enum-told2 .given .1) (c .before .before .before .before .shape-fault .ensures)
-    (c .content-fault .ensures ∙ ap (λ (r : Record). first (contentTests (bitAt (a .cp .now)) (a .bit-count) r)) (c .before .record-in .ensures))
+    past-shape (a .cp .now) (a .bit-count) (c .before .before .before .before .shape-fault .result)
+    (c .before .before .enum-told2 .given .1) (c .before .before .before .before .shape-fault .ensures)
+    (c .content-fault .ensures ∙ ap (λ (r : Record). first (contentTests (bitAt (a .cp .now)) (a .bit-count) r))
+    (c .before .record-in .ensures))
 
 shape-fault-requires : tie.Need-shape-fault-requires
 shape-fault-requires c κs = search needs
@@ -65,7 +70,8 @@ enum-told-4 c = search needs
 returns-3 : tie.Need-returns-3
 returns-3 c =
     let a = c .before .before .before .before .before .before .before .before .args in
-    let e : bare 0 ≡ readRefusal (readCall (a .cp .now) (a .bit-count)) = sym (ap outcomeAnswer (c .enum-told4 .given .1)) ∙ content (c .before .before) in
+    let e : bare 0 ≡ readRefusal (readCall (a .cp .now) (a .bit-count)) = sym (ap outcomeAnswer (c .enum-told4 .given .1))
+    ∙ content (c .before .before) in
     (e, c .before .before .before .record-in .ensures ∙ sym (read-accepted (a .cp .now) (a .bit-count) e))
 
 pub read-cp-spec : {M : Type 1} → statement M

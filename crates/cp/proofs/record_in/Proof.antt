@@ -18,7 +18,8 @@ masks-in-requires : tie.Need-masks-in-requires
 masks-in-requires c κs = tt
 
 returns : tie.Need-returns
-returns c = record-read (bitAt (c .before .before .before .before .args .cp .now)) _ _ _ (c .before .before .head-in .ensures) (c .before .largest-index .ensures) (c .masks-in .ensures)
+returns c = record-read (bitAt (c .before .before .before .before .args .cp .now)) _ _ _ (c .before .before .head-in .ensures)
+    (c .before .largest-index .ensures) (c .masks-in .ensures)
 
 pub record-in-spec : {M : Type 1} → statement M
 record-in-spec =

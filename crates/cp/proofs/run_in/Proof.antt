@@ -23,7 +23,11 @@ field-at-requires : tie.Need-field-at-requires
 field-at-requires c κs = search needs
 
 returns : tie.Need-returns
-returns c = (c .field-at .ensures, rw (c .field-at .ensures) (field-lt (bitAt (c .before .before .args .cp .now)) (runPlace (c .before .before .args .m) (c .before .before .args .c)) 16))
+returns c = (
+  c .field-at .ensures,
+  rw (c .field-at .ensures)
+      (field-lt (bitAt (c .before .before .args .cp .now)) (runPlace (c .before .before .args .m) (c .before .before .args .c)) 16),
+)
 
 pub run-in-spec : {M : Type 1} → statement M
 run-in-spec =

@@ -20,11 +20,13 @@ past1 : (c : tie.Else1) {a : Answer} → a ≡ first (drop 1 (T (c .before .befo
 unfolding sequenceTests lengthWrong
 past1 c e = first-skip _ _ (ap not (eq-eqb _ _ (c .if1 .left ∙ c .before .cp-length .ensures))) e
 
-past2 : (c : tie.Else2) {a : Answer} → a ≡ first (drop 2 (T (c .before .before .before .before .before))) → a ≡ first (T (c .before .before .before .before .before))
+past2 : (c : tie.Else2) {a : Answer} → a ≡ first (drop 2 (T (c .before .before .before .before .before)))
+    → a ≡ first (T (c .before .before .before .before .before))
 unfolding sequenceTests
 past2 c e = past1 (c .before .before) (first-skip _ _ (sym (c .before .start-bit-set .ensures) ∙ c .if2 .left) e)
 
-past3 : (c : tie.Else3) {a : Answer} → a ≡ first (drop 3 (T (c .before .before .before .before .before .before .before))) → a ≡ first (T (c .before .before .before .before .before .before .before))
+past3 : (c : tie.Else3) {a : Answer} → a ≡ first (drop 3 (T (c .before .before .before .before .before .before .before)))
+    → a ≡ first (T (c .before .before .before .before .before .before .before))
 unfolding sequenceTests
 past3 c e = past2 (c .before .before) (first-skip _ _ (ap not (sym (c .before .crc-matches .ensures)) ∙ c .if3 .left) e)
 

@@ -20,19 +20,22 @@ use Rattle.cp.proofs.write_cp.Statement.{statement}
 use Rattle.cp.proofs.write_cp.Tie as tie
 
 -- what the tests answer
-refusal : (c : tie.After-write-fault) → outcomeAnswer (c .write-fault .result) ≡ writeRefusal (writeCall (c .before .before .args .r) (c .before .before .args .cp .now))
+refusal : (c : tie.After-write-fault) → outcomeAnswer (c .write-fault .result)
+    ≡ writeRefusal (writeCall (c .before .before .args .r) (c .before .before .args .cp .now))
 unfolding writeRefusal
 refusal c = c .write-fault .ensures
 
 -- past all of them
 passed : (c : tie.After-enum-told2) → (indexTooLarge (c .before .before .before .before .args .r) ≡ false)
-    × (ltb (length (c .before .before .before .before .args .cp .now)) (cpByteCount (topIndex (c .before .before .before .before .args .r))) ≡ false)
+    × (ltb (length (c .before .before .before .before .args .cp .now)) (cpByteCount (topIndex (c .before .before .before .before .args .r)))
+    ≡ false)
 passed c = write-passed _ _ (c .before .before .write-fault .result) (c .enum-told2 .given .1) (c .before .before .write-fault .ensures)
 
 top : (c : tie.After-enum-told2) → topIndex (c .before .before .before .before .args .r) ≤ 5
 top c = omega (arith, top-lt (c .before .before .before .before .args .r) (passed c .0))
 
-needed : (c : tie.After-byte-count) → c .byte-count .result ≡ cpByteCount (topIndex (c .before .before .before .before .before .before .args .r))
+needed : (c : tie.After-byte-count) → c .byte-count .result
+    ≡ cpByteCount (topIndex (c .before .before .before .before .before .before .args .r))
 needed c = c .byte-count .ensures ∙ ap (λ (g : ℕ). cpByteCount g) (c .before .largest-index .ensures)
 
 write-fault-requires : tie.Need-write-fault-requires
@@ -68,7 +71,8 @@ slice-aggregate-put-cp c = sym (length-take-le _ _ (rw (needed (c .before)) (ltb
 
 put-cp-requires : tie.Need-put-cp-requires
 put-cp-requires c κs =
-    let l : c .before .byte-count .result ≤ length (c .before .before .before .before .before .before .before .args .cp .now) = rw (needed (c .before)) (ltb-false _ _ (passed (c .before .before .before) .1)) in
+    let l : c .before .byte-count .result ≤ length (c .before .before .before .before .before .before .before .args .cp .now) = rw
+    (needed (c .before)) (ltb-false _ _ (passed (c .before .before .before) .1)) in
     (omega (arith, top (c .before .before .before)), length-take-le _ _ l ∙ needed (c .before))
 
 cp-length-requires : tie.Need-cp-length-requires
@@ -81,8 +85,11 @@ returns-2 : tie.Need-returns-2
 returns-2 c =
     let b = c .before .before .before .before .before in
     let a = b .before .before .before .before .before .before .args in
-    let e : bare 0 ≡ writeRefusal (writeCall (a .r) (a .cp .now)) = sym (ap outcomeAnswer (b .before .before .enum-told2 .given .1)) ∙ refusal (b .before .before .before .before) in
-    let k = write-accepted (a .r) (a .cp .now) e _ _ _ (c .cp-length .ensures ∙ ap (λ (g : ℕ). cpLength g) (b .before .largest-index .ensures)) (needed b) (c .before .before .before .put-cp .ensures) in
+    let e : bare 0 ≡ writeRefusal (writeCall (a .r) (a .cp .now)) = sym (ap outcomeAnswer (b .before .before .enum-told2 .given .1))
+    ∙ refusal (b .before .before .before .before) in
+    let k = write-accepted (a .r) (a .cp .now) e _ _ _
+    (c .cp-length .ensures ∙ ap (λ (g : ℕ). cpLength g) (b .before .largest-index .ensures)) (needed b)
+    (c .before .before .before .put-cp .ensures) in
     (e, k .0, k .1)
 
 pub write-cp-spec : {M : Type 1} → statement M

@@ -20,11 +20,14 @@ use Rattle.cp.proofs.write_fault.Tie as tie
 -- past the record's tests
 past : (c : tie.After-enum-told2) {a : Answer}
     → a ≡ first (test 17 (ltb (c .before .before .before .args .room) (cpByteCount (topIndex (c .before .before .before .args .r)))) ∷ [])
-    → a ≡ first (writeTests (c .before .before .before .args .r) (ltb (c .before .before .before .args .room) (cpByteCount (topIndex (c .before .before .before .args .r)))))
+    → a ≡ first
+    (writeTests (c .before .before .before .args .r)
+    (ltb (c .before .before .before .args .room) (cpByteCount (topIndex (c .before .before .before .args .r)))))
 unfolding writeTests
 past c e =
     let a = c .before .before .before .args in
-    stage-past (c .before .before .record-fault .result) (recordTests (a .r)) (test 17 (ltb (a .room) (cpByteCount (topIndex (a .r)))) ∷ []) (record-numbered (a .r)) (c .enum-told2 .given .1) (c .before .before .record-fault .ensures) e
+    stage-past (c .before .before .record-fault .result) (recordTests (a .r)) (test 17 (ltb (a .room) (cpByteCount (topIndex (a .r)))) ∷ [])
+    (record-numbered (a .r)) (c .enum-told2 .given .1) (c .before .before .record-fault .ensures) e
 
 needed : (c : tie.After-byte-count) → c .byte-count .result ≡ cpByteCount (topIndex (c .before .before .before .before .before .args .r))
 needed c = c .byte-count .ensures ∙ ap (λ (g : ℕ). cpByteCount g) (c .before .largest-index .ensures)
@@ -39,7 +42,8 @@ returns : tie.Need-returns
 unfolding writeTests
 returns c =
     let a = c .before .before .before .args in
-    stage-hit (c .before .before .record-fault .result) _ (recordTests (a .r)) (test 17 (ltb (a .room) (cpByteCount (topIndex (a .r)))) ∷ []) (c .enum-told .given .1) (c .before .before .record-fault .ensures)
+    stage-hit (c .before .before .record-fault .result) _ (recordTests (a .r))
+    (test 17 (ltb (a .room) (cpByteCount (topIndex (a .r)))) ∷ []) (c .enum-told .given .1) (c .before .before .record-fault .ensures)
 
 enum-told-2 : tie.Need-enum-told-2
 enum-told-2 c = search needs
@@ -54,7 +58,11 @@ byte-count-requires : tie.Need-byte-count-requires
 byte-count-requires c κs =
     let r = c .before .before .before .before .args .r in
     let b = c .before .before .before in
-    omega (arith, top-lt r (index-passed r (b .record-fault .result) (c .before .enum-told2 .given .1) (b .record-fault .ensures)), c .largest-index .ensures)
+    omega (
+      arith,
+      top-lt r (index-passed r (b .record-fault .result) (c .before .enum-told2 .given .1) (b .record-fault .ensures)),
+      c .largest-index .ensures,
+    )
 
 returns-2 : tie.Need-returns-2
 returns-2 c = past (c .before .before .before) (first-hit 17 _ _ (lt-ltb _ _ (rw (needed (c .before)) at (c .if1 .taken))))

@@ -25,7 +25,12 @@ returns : tie.Need-returns
 unfolding recordAt
 returns c =
     let s = c .before .before .before .before .before .before .args .bytes .now in
-    rw (positive-test (getD s 0 0), positive-test (getD s 2 0), c .before .before .before .before .indices-at .ensures, c .before .before .before .masks-at .ensures)
+    rw (
+      positive-test (getD s 0 0),
+      positive-test (getD s 2 0),
+      c .before .before .before .before .indices-at .ensures,
+      c .before .before .before .masks-at .ensures,
+    )
 
 pub record-from-spec : {M : Type 1} → statement M
 record-from-spec =

@@ -16,7 +16,8 @@ use Rattle.forms.proofs.record_into.Tie as tie
 abbrev Inv-loop : tie.InvT-loop
 Inv-loop bytes₀ mask h₀ bytes h =
     (h ≤ 12) × (length bytes ≡ length bytes₀) × Bytes bytes
-    × ((r : Record) → mask ≡ r .mask → bytes₀ ≡ listFrom (recordByte r) 0 9 ++ drop 9 bytes₀ → bytes ≡ listFrom (recordByte r) 0 (9 + 8 * h) ++ drop (9 + 8 * h) bytes₀)
+    × ((r : Record) → mask ≡ r .mask → bytes₀ ≡ listFrom (recordByte r) 0 9 ++ drop 9 bytes₀ → bytes ≡ listFrom (recordByte r) 0 (9 + 8 * h)
+    ++ drop (9 + 8 * h) bytes₀)
 
 abbrev μ-loop : tie.MeasureT-loop
 μ-loop bytes₀ mask h₀ bytes h = 12 - h
@@ -72,7 +73,8 @@ returns c =
     let f = recordByte (a .r) in
     let e : 9 + 8 * l .h ≡ 105 = omega arith in
     listed-all f (a .bytes .now) (l .bytes) 105
-    (rw e at (l .inv .3 (a .r) refl (own-rest f (a .bytes .now) _ (head .ensures))) ∙ ap (λ (t : List ℕ). listFrom f 0 105 ++ t) (rest-past f (a .bytes .now) _ (head .ensures)))
+    (rw e at (l .inv .3 (a .r) refl (own-rest f (a .bytes .now) _ (head .ensures)))
+    ∙ ap (λ (t : List ℕ). listFrom f 0 105 ++ t) (rest-past f (a .bytes .now) _ (head .ensures)))
 
 pub record-into-spec : {M : Type 1} → statement M
 record-into-spec =

@@ -34,8 +34,12 @@ loop-less c = omega arith
 loop-again : tie.Need-loop-again Inv-loop μ-loop
 loop-again c =
     let l = c .before .before .loop in
-    let a = c .before .before .before .before .args in
-    (omega arith, simp length-set (l .inv .1), listed-more (stateByte (a .s)) (a .bytes .now) (l .bytes) (l .k) _ (l .inv .2) (omega arith) (c .state-byte .ensures))
+    let a = c .before .before .before .before .args in (
+      omega arith,
+      simp length-set (l .inv .1),
+      listed-more (stateByte (a .s)) (a .bytes .now) (l .bytes) (l .k) _ (l .inv .2) (omega arith)
+          (c .state-byte .ensures),
+    )
 
 same-length : tie.Need-same-length Inv-loop μ-loop
 same-length c = c .before .loop .inv .1

@@ -13,7 +13,13 @@ past-after-requires : tie.Need-past-after-requires
 past-after-requires c κs = search needs
 
 returns : tie.Need-returns
-returns c = (refl, c .past-after .ensures ∙ ap (λ (bs : List Bool). turned (pushAll (turned (c .before .args .line .past)) bs)) (zero-bits (c .before .args .width)), refl, refl)
+returns c = (
+  refl,
+  c .past-after .ensures ∙ ap (λ (bs : List Bool). turned (pushAll (turned (c .before .args .line .past)) bs))
+      (zero-bits (c .before .args .width)),
+  refl,
+  refl,
+)
 
 pub marked-frame-spec : {M : Type 1} → statement M
 marked-frame-spec = tie.close (tie.spec past-after-requires returns)

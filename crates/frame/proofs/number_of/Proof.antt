@@ -27,7 +27,11 @@ array-read-number c = omega arith
 mul-number-2 : tie.Need-mul-number-2 Inv-loop μ-loop
 mul-number-2 c =
     let l = c .before .loop in
-    omega (arith, formed-fits _ _ (omega arith) (c .before .before .pre) (l .number) (l .i) (l .inv .1) (omega arith) (l .inv .0) 0 (omega arith))
+    omega (
+      arith,
+      formed-fits _ _ (omega arith) (c .before .before .pre) (l .number) (l .i) (l .inv .1) (omega arith) (l .inv .0) 0
+          (omega arith),
+    )
 
 array-read-wide : tie.Need-array-read-wide Inv-loop μ-loop
 array-read-wide c = omega arith
@@ -38,7 +42,11 @@ wide-requires c κs = tt
 add-number : tie.Need-add-number Inv-loop μ-loop
 add-number c =
     let l = c .before .before .loop in
-    omega (arith, formed-fits _ _ (omega arith) (c .before .before .before .pre) (l .number) (l .i) (l .inv .1) (omega arith) (l .inv .0) (c .wide .result) (c .wide .ensures .1))
+    omega (
+      arith,
+      formed-fits _ _ (omega arith) (c .before .before .before .pre) (l .number) (l .i) (l .inv .1) (omega arith) (l .inv .0)
+          (c .wide .result) (c .wide .ensures .1),
+    )
 
 loop-less : tie.Need-loop-less Inv-loop μ-loop
 loop-less c = omega arith
@@ -46,8 +54,11 @@ loop-less c = omega arith
 loop-again : tie.Need-loop-again Inv-loop μ-loop
 loop-again c =
     let l = c .before .before .loop in
-    let w = c .wide .ensures in
-    (omega arith, formed-more _ _ (omega arith) (c .before .before .before .pre) (l .number) (l .i) (l .inv .1) (omega arith) (l .inv .0) _ (w .1) (omega arith) (w .0))
+    let w = c .wide .ensures in (
+      omega arith,
+      formed-more _ _ (omega arith) (c .before .before .before .pre) (l .number) (l .i) (l .inv .1) (omega arith) (l .inv .0) _
+          (w .1) (omega arith) (w .0),
+    )
 
 returns : tie.Need-returns Inv-loop μ-loop
 returns c = let e : c .before .loop .i ≡ 0 = omega arith in (rw e at (c .before .loop .inv .1)) .value

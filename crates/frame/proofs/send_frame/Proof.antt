@@ -7,25 +7,29 @@ use Rattle.frame.proofs.Sending.{sent-below, sent-small, sent-octets, s
 use Rattle.frame.proofs.send_frame.Statement.{statement}
 use Rattle.frame.proofs.send_frame.Tie as tie
 
-add-scramble-past : tie.Need-add-scramble-past
-add-scramble-past c = let s = c .before .before .before .pre .0 .1 in omega (arith, width-le _ _ (s .mapped) (s .rate))
-
 scramble-past-requires : tie.Need-scramble-past-requires
-scramble-past-requires c κs = let s = c .before .before .before .pre .0 .1 in (s .past, width-ge _ _ (s .mapped), width-le _ _ (s .mapped) (s .rate))
+scramble-past-requires c κs =
+    let s = c .before .before .pre .0 .1 in (s .past, width-ge _ _ (s .mapped), width-le _ _ (s .mapped) (s .rate))
 
 signs-of-requires : tie.Need-signs-of-requires
 signs-of-requires c κs = search needs
 
 labels-of-requires : tie.Need-labels-of-requires
 labels-of-requires c κs =
-    let b = c .before .before .before .before .before .before in
-    let s = b .pre .0 .1 in
-    (sent-below (b .pre .0 .0) (b .args .law) _ _ _ _ s (b .args .bits) _ _ (c .before .before .scramble-past .ensures), size-le _ _ (s .mapped), s .inverse)
+    let b = c .before .before .before .before .before in
+    let s = b .pre .0 .1 in (
+      sent-below (b .pre .0 .0) (b .args .law) _ _ _ _ s (b .args .bits) _ _ (c .before .before .scramble-past .ensures),
+      size-le _ _ (s .mapped),
+      s .inverse,
+    )
 
 write-octets-requires : tie.Need-write-octets-requires
 write-octets-requires c κs =
-    let b = c .before .before .before .before .before .before .before .before in
-    (sent-small (b .pre .0 .0) (b .args .law) _ _ _ _ (b .pre .0 .1) (b .args .bits) _ _ (c .before .before .before .before .scramble-past .ensures) _ (c .before .labels-of .ensures), b .pre .1)
+    let b = c .before .before .before .before .before .before .before in (
+      sent-small (b .pre .0 .0) (b .args .law) _ _ _ _ (b .pre .0 .1) (b .args .bits) _ _
+          (c .before .before .before .before .scramble-past .ensures) _ (c .before .labels-of .ensures),
+      b .pre .1,
+    )
 
 bit-of-requires : tie.Need-bit-of-requires
 bit-of-requires c κs = search needs
@@ -35,7 +39,7 @@ same-length c = search needs
 
 returns : tie.Need-returns
 returns c r s =
-    let a = c .before .before .before .before .before .before .before .before .before .before .before .before .args in
+    let a = c .before .before .before .before .before .before .before .before .before .before .before .args in
     let line = c .before .before .before .before .before .before .before .before .scramble-past .ensures in
     let signs = c .before .before .before .before .before .before .before .signs-of .ensures in
     let labels = c .before .before .before .before .before .labels-of .ensures in (
@@ -48,7 +52,6 @@ pub send-frame-spec : {M : Type 1} → statement M
 send-frame-spec =
     tie.close
     (tie.spec
-    add-scramble-past
     scramble-past-requires
     signs-of-requires
     labels-of-requires

@@ -55,8 +55,11 @@ unfolding octetIn
 loop-again c =
     let l = c .before .before .before .before .loop in
     let a = c .before .before .before .before .before .before .args in
-    let u = getD (getD (a .points .now) (l .i) []) (getD (a .t3) (l .i) 0) 0 in
-    (omega arith, filled-more _ (l .inv .1) (omega arith) (c .octet-of .ensures ∙ ap (λ (s : Bool). octet (a .law) s (u % 128)) (c .before .bit-of .ensures)))
+    let u = getD (getD (a .points .now) (l .i) []) (getD (a .t3) (l .i) 0) 0 in (
+      omega arith,
+      filled-more _ (l .inv .1) (omega arith)
+          (c .octet-of .ensures ∙ ap (λ (s : Bool). octet (a .law) s (u % 128)) (c .before .bit-of .ensures)),
+    )
 
 same-length : tie.Need-same-length Inv-loop μ-loop
 same-length c = omega arith

@@ -9,7 +9,8 @@ size-of-requires : tie.Need-size-of-requires
 size-of-requires c κs = tt
 
 draw-half-requires : tie.Need-draw-half-requires
-draw-half-requires c κs = let m = c .before .before .before .before .before .args .m in (omega arith, (has m, drawing-low m _ (c .before .before .size-of .ensures)))
+draw-half-requires c κs = let m = c .before .before .before .before .before .args .m in
+    (omega arith, (has m, drawing-low m _ (c .before .before .size-of .ensures)))
 
 label-of-requires : tie.Need-label-of-requires
 label-of-requires c κs = omega arith
@@ -17,13 +18,15 @@ label-of-requires c κs = omega arith
 draw-half-requires-2 : tie.Need-draw-half-requires-2
 draw-half-requires-2 c κs =
     let m = c .before .before .before .before .before .before .before .before .before .args .m in
-    let low = c .before .before .before .draw-half .ensures (has m) (drawing-low m _ (c .before .before .before .before .before .before .size-of .ensures)) in
+    let low = c .before .before .before .draw-half .ensures (has m)
+    (drawing-low m _ (c .before .before .before .before .before .before .size-of .ensures)) in
     (omega arith, (has m, drawing-high m _ _ _ (c .before .before .label-of .ensures) low))
 
 returns : tie.Need-returns
 returns c =
     let m = c .before .before .before .before .before .before .before .before .before .before .args .m in
-    let low = c .before .before .before .before .draw-half .ensures (has m) (drawing-low m _ (c .before .before .before .before .before .before .before .size-of .ensures)) in
+    let low = c .before .before .before .before .draw-half .ensures (has m)
+    (drawing-low m _ (c .before .before .before .before .before .before .before .size-of .ensures)) in
     drawing-done m _ _ (c .draw-half2 .ensures (has m) (drawing-high m _ _ _ (c .before .before .before .label-of .ensures) low))
 
 pub draw-spec : {M : Type 1} → statement M

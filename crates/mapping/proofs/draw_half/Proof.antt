@@ -14,7 +14,8 @@ use Rattle.mapping.proofs.draw_half.Tie as tie
 
 abbrev Inv-loop : tie.InvT-loop
 Inv-loop half first end points₀ labels₀ left₀ c₀ points labels left c =
-    (left < 2 ^ 64) × ((m : ℕ → Bool) → Drawing m (leftIn half first m) points₀ labels₀ end → Drawing m (leftIn left first m) points labels c)
+    (left < 2 ^ 64)
+    × ((m : ℕ → Bool) → Drawing m (leftIn half first m) points₀ labels₀ end → Drawing m (leftIn left first m) points labels c)
 
 abbrev μ-loop : tie.MeasureT-loop
 μ-loop half first end points₀ labels₀ left₀ c₀ points labels left c = left
@@ -24,7 +25,8 @@ loop-holds c = (omega arith, λ m d. d)
 
 -- the lowest one of what is left
 one : (c : tie.In-loop Inv-loop μ-loop)
-    → (trailingZeros 64 (c .before .loop .left) < 64) × Lowest (bit (c .before .loop .left)) (trailingZeros 64 (c .before .loop .left)) (bit (bitAnd (c .before .loop .left) (c .before .loop .left - 1)))
+    → (trailingZeros 64 (c .before .loop .left) < 64) × Lowest (bit (c .before .loop .left)) (trailingZeros 64 (c .before .loop .left))
+    (bit (bitAnd (c .before .loop .left) (c .before .loop .left - 1)))
 one c = lowest-one 64 (c .before .loop .left) (c .loop-test .taken) (c .before .loop .inv .0)
 
 place : (c : tie.In-loop Inv-loop μ-loop) → c .before .before .args .first + trailingZeros 64 (c .before .loop .left) < 128

@@ -1,11 +1,9 @@
 -- Turn i draws up the tables of interval i. Assumes nothing.
-use mathlib.Core.Path.{_≡_, ap₂}
-use Prim.Native.Nat.{ℕ, _+_, _-_, _≤_, _<_}
-use mathlib.Core.List.{List}
+use mathlib.Core.Path.{_≡_}
+use Prim.Native.Nat.{_-_, _≤_, _<_}
 use native.Mathlib.Omega.{arith}
-use Rattle.standard.specs.Record.{K}
 use Rattle.mapping.specs.Tables.{DrawnBefore}
-use Rattle.mapping.proofs.Tables.{before-none, before-more, before-all}
+use Rattle.mapping.proofs.Tables.{before-none, before-more, before-all, mapped}
 use Rattle.mapping.proofs.draw_up.Statement.{statement}
 use Rattle.mapping.proofs.draw_up.Tie as tie
 
@@ -40,20 +38,18 @@ loop-again c =
 sizes-of-requires : tie.Need-sizes-of-requires Inv-loop μ-loop
 sizes-of-requires c κs = c .before .before .pre .0
 
-cast-t10 : tie.Need-cast-t10 Inv-loop μ-loop
-cast-t10 c = omega arith
+k-of-requires : tie.Need-k-of-requires Inv-loop μ-loop
+k-of-requires c κs = tt
 
-add-t11 : tie.Need-add-t11 Inv-loop μ-loop
-add-t11 c = omega arith
+d-of-requires : tie.Need-d-of-requires Inv-loop μ-loop
+d-of-requires c κs = tt
 
 returns : tie.Need-returns Inv-loop μ-loop
 returns c =
-    let l = c .before .before .before .loop in
-    let r = c .before .before .before .before .args .r in
+    let l = c .before .before .before .before .loop in
     let e : l .i ≡ 6 = omega arith in
-    let k : r .drn + 14 ≡ K r = omega arith in
-    let all = before-all r (l .points) (l .labels) (rw e at (l .inv .1)) in
-    (ap₂ (λ (x : ℕ) (y : List ℕ). record { k = x; sizes = y }) k (c .before .sizes-of .ensures), all .0, all .1)
+    let all = before-all _ (l .points) (l .labels) (rw e at (l .inv .1)) in
+    (mapped _ _ _ _ (c .before .k-of .ensures) (c .d-of .ensures) (c .before .before .sizes-of .ensures), all .0, all .1)
 
 pub draw-up-spec : {M : Type 1} → statement M
 draw-up-spec =
@@ -67,6 +63,6 @@ draw-up-spec =
     loop-less
     loop-again
     sizes-of-requires
-    cast-t10
-    add-t11
+    k-of-requires
+    d-of-requires
     returns)

@@ -46,7 +46,8 @@ add-j : tie.Need-add-j Inv-loop μ-loop
 add-j c = omega arith
 
 loop-less : tie.Need-loop-less Inv-loop μ-loop
-loop-less c = let b = c .before .before .before .args in omega (arith, before (b .r .index) (b .i) (c .before .loop .j) (omega arith) (c .loop-test .taken))
+loop-less c = let b = c .before .before .before .args in omega
+    (arith, before (b .r .index) (b .i) (c .before .loop .j) (omega arith) (c .loop-test .taken))
 
 loop-again : tie.Need-loop-again Inv-loop μ-loop
 loop-again c =

@@ -1,4 +1,5 @@
--- `table1::positive_octet` meets its contract. The constant table, whole, computes to the table of the XOR rule, in which the row of a Ucode is known. Assumes nothing.
+-- `table1::positive_octet` meets its contract. The constant table, whole, computes to the table of the XOR rule, in which the row of a
+-- Ucode is known. Assumes nothing.
 use borrow.Author.Needs.{needs}
 use Rattle.standard.specs.Lists.{listFrom}
 use Rattle.standard.specs.Octets.{positiveOctet}

@@ -42,7 +42,8 @@ array-read-divide-4 : tie.Need-array-read-divide-4
 array-read-divide-4 c = search needs
 
 divide-requires-2 : tie.Need-divide-requires-2
-divide-requires-2 c κs = let b = c .before in by-size _ _ _ (facts b) (b .pre .2) 1 (omega arith) _ (left-small _ _ _ (facts b .low) (c .divide .ensures .1))
+divide-requires-2 c κs =
+    let b = c .before in by-size _ _ _ (facts b) (b .pre .2) 1 (omega arith) _ (left-small _ _ _ (facts b .low) (c .divide .ensures .1))
 
 div-divide : tie.Need-div-divide
 div-divide c = facts (c .before .before) .some
@@ -63,12 +64,14 @@ array-read-divide-8 : tie.Need-array-read-divide-8
 array-read-divide-8 c = search needs
 
 divide-requires-4 : tie.Need-divide-requires-4
-divide-requires-4 c κs = let b = c .before .before .before in by-size _ _ _ (facts b) (b .pre .2) 4 (omega arith) _ (left-small _ _ _ (facts b .high) (c .divide3 .ensures .1))
+divide-requires-4 c κs = let b = c .before .before .before in by-size _ _ _ (facts b) (b .pre .2) 4 (omega arith) _
+    (left-small _ _ _ (facts b .high) (c .divide3 .ensures .1))
 
 returns : tie.Need-returns
 returns c =
     let b = c .before .before .before .before in
-    six-labels (b .args .t1) (b .args .number) _ _ _ _ _ _ _ _ (facts b) (c .before .before .before .divide .ensures) (c .before .before .divide2 .ensures) (c .before .divide3 .ensures) (c .divide4 .ensures)
+    six-labels (b .args .t1) (b .args .number) _ _ _ _ _ _ _ _ (facts b) (c .before .before .before .divide .ensures)
+    (c .before .before .divide2 .ensures) (c .before .divide3 .ensures) (c .divide4 .ensures)
 
 pub labels-of-spec : {M : Type 1} → statement M
 labels-of-spec =

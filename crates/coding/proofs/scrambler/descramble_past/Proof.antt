@@ -18,8 +18,10 @@ past-after-requires c κs = search needs
 
 returns : tie.Need-returns
 returns c =
-    let a = c .before .args in
-    (rw (one-shifted (a .count) (omega arith)) (descrambled (a .past) (a .line) (c .before .pre .0) (a .count) (c .before .pre .2)), c .past-after .ensures)
+    let a = c .before .args in (
+      rw (one-shifted (a .count) (omega arith)) (descrambled (a .past) (a .line) (c .before .pre .0) (a .count) (c .before .pre .2)),
+      c .past-after .ensures,
+    )
 
 pub descramble-past-spec : {M : Type 1} → statement M
 descramble-past-spec = tie.close (tie.spec shl-plain rem-plain past-after-requires returns)

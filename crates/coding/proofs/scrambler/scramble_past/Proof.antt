@@ -31,9 +31,12 @@ returns : tie.Need-returns
 returns c =
     let a = c .before .before .before .before .before .before .before .args in
     let n = a .count in
-    let rest = scrambled-join _ (a .bits / 2 ^ 18) 18 12 30 _ _ _ _ refl (omega arith) (c .before .before .before .before .before .scramble-some2 .ensures) (c .before .before .before .before .scramble-some3 .ensures) in
-    let all = scrambled-join (a .past) (a .bits) 18 30 48 _ _ _ _ refl (omega arith) (c .before .before .before .before .before .before .scramble-some .ensures) rest in
-    scrambled-first (a .past) (a .bits) n 48 _ _ _ _ (c .before .before .before .before .before .before .before .pre .2) all (one-shifted n (omega arith)) (c .past-after .ensures)
+    let rest = scrambled-join _ (a .bits / 2 ^ 18) 18 12 30 _ _ _ _ refl (omega arith)
+    (c .before .before .before .before .before .scramble-some2 .ensures) (c .before .before .before .before .scramble-some3 .ensures) in
+    let all = scrambled-join (a .past) (a .bits) 18 30 48 _ _ _ _ refl (omega arith)
+    (c .before .before .before .before .before .before .scramble-some .ensures) rest in
+    scrambled-first (a .past) (a .bits) n 48 _ _ _ _ (c .before .before .before .before .before .before .before .pre .2) all
+    (one-shifted n (omega arith)) (c .past-after .ensures)
 
 pub scramble-past-spec : {M : Type 1} → statement M
 scramble-past-spec =

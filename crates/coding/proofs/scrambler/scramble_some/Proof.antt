@@ -27,7 +27,8 @@ cast-t5 c = search needs
 returns : tie.Need-returns
 returns c =
     let a = c .args in
-    scrambled (a .past) (a .bits) (a .n) _ _ (c .pre .0) (c .pre .1) (ap (λ (x : ℕ). mix (a .bits) (a .past) % x) (one-shifted (a .n) (omega arith)))
+    scrambled (a .past) (a .bits) (a .n) _ _ (c .pre .0) (c .pre .1)
+    (ap (λ (x : ℕ). mix (a .bits) (a .past) % x) (one-shifted (a .n) (omega arith)))
     (after-some (a .past) _ (c .pre .0) (a .n) (omega arith))
 
 pub scramble-some-spec : {M : Type 1} → statement M

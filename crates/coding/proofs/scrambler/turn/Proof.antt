@@ -21,7 +21,8 @@ unfolding field
 loop-holds c = (omega arith, refl)
 
 mul-past : tie.Need-mul-past Inv-loop μ-loop
-mul-past c = let l = c .before .loop in omega (arith, field-small (inTime (c .before .before .args .history)) (0 + (23 - l .k)) (l .k) 23 (omega arith))
+mul-past c = let l = c .before .loop in omega
+    (arith, field-small (inTime (c .before .before .args .history)) (0 + (23 - l .k)) (l .k) 23 (omega arith))
 
 bit-of-requires : tie.Need-bit-of-requires Inv-loop μ-loop
 bit-of-requires c κs = omega arith
@@ -32,7 +33,13 @@ cast-past c = tt
 add-past : tie.Need-add-past Inv-loop μ-loop
 add-past c =
     let l = c .before .before .loop in
-    omega (arith, field-small (inTime (c .before .before .before .args .history)) (0 + (23 - l .k)) (l .k) 23 (omega arith), byte-weight (c .bit-of .result), weight-lt (c .bit-of .result))
+    omega (
+      arith,
+      field-small (inTime (c .before .before .before .args .history)) (0 + (23 - l .k)) (l .k) 23 (omega arith),
+      byte-weight
+          (c .bit-of .result),
+      weight-lt (c .bit-of .result),
+    )
 
 add-k : tie.Need-add-k Inv-loop μ-loop
 add-k c = omega arith
@@ -44,8 +51,11 @@ loop-again : tie.Need-loop-again Inv-loop μ-loop
 loop-again c =
     let h = c .before .before .before .args .history in
     let l = c .before .before .loop in
-    let e : l .k ≡ 22 - (0 + (23 - (l .k + 1))) = omega arith in
-    (omega arith, field-step (inTime h) 0 23 (l .k) (l .past) (c .bit-of .result) (omega arith) (l .inv .1) (c .bit-of .ensures ∙ ap (bit h) e))
+    let e : l .k ≡ 22 - (0 + (23 - (l .k + 1))) = omega arith in (
+      omega arith,
+      field-step (inTime h) 0 23 (l .k) (l .past) (c .bit-of .result) (omega arith) (l .inv .1)
+          (c .bit-of .ensures ∙ ap (bit h) e),
+    )
 
 returns : tie.Need-returns Inv-loop μ-loop
 unfolding turned

@@ -39,8 +39,11 @@ loop-less c = omega arith
 loop-again : tie.Need-loop-again Inv-loop μ-loop
 loop-again c =
     let l = c .before .before .before .before .loop in
-    let f = signAt (c .before .before .before .before .before .before .args .octets .now) in
-    (omega arith, held-more _ (l .inv .1) (c .with-top .ensures) (list-more f (l .i) ∙ ap (λ (t : Bool). listFrom f 0 (l .i) ++ (t ∷ [])) (sym (c .before .sign-of .ensures))))
+    let f = signAt (c .before .before .before .before .before .before .args .octets .now) in (
+      omega arith,
+      held-more _ (l .inv .1) (c .with-top .ensures)
+          (list-more f (l .i) ∙ ap (λ (t : Bool). listFrom f 0 (l .i) ++ (t ∷ [])) (sym (c .before .sign-of .ensures))),
+    )
 
 returns : tie.Need-returns Inv-loop μ-loop
 returns c = let e : c .before .loop .i ≡ 6 = omega arith in rw e at (c .before .loop .inv .1 .value)
