@@ -96,17 +96,17 @@ def state_from(form):
     return state._replace(sign=int(state.sign != 0))
 
 
-def state_left(state, form):
-    """The state buffer after an accepted call, also one of no frames: the sign is then 0 or 1."""
-    return frames.pack_state(state) + form[STATE_BYTES:]
+def state_left(state, count, form):
+    """The state buffer after an accepted call: one of no frames writes no byte of it."""
+    return frames.pack_state(state) + form[STATE_BYTES:] if count else form
 
 
 def want_read_cp(sequence, bit_count, form):
-    if len(form) < RECORD_BYTES:
-        return 17, {}
     refusal, rec = cp.read_cp(sequence, bit_count)
     if refusal:
         return answer_to(refusal), {}
+    if len(form) < RECORD_BYTES:
+        return 17, {}
     return 0, {"record": record.pack(rec) + form[RECORD_BYTES:]}
 
 
@@ -123,7 +123,7 @@ def want_send(form, a_law, count, bits, octets, state):
     refusal, left, after = frames.send(record_from(form), a_law, count, state_from(state), bits, octets)
     if refusal:
         return answer_to(refusal), {}
-    return 0, {"octets": after, "state": state_left(left, state)}
+    return 0, {"octets": after, "state": state_left(left, count, state)}
 
 
 def want_receive(form, a_law, count, octets, bits, marks, state):
@@ -133,7 +133,7 @@ def want_receive(form, a_law, count, octets, bits, marks, state):
                                                   octets, bits, marks)
     if refusal:
         return answer_to(refusal), {}
-    return 0, {"bits": heard, "marks": judged, "state": state_left(left, state)}
+    return 0, {"bits": heard, "marks": judged, "state": state_left(left, count, state)}
 
 
 def want_linear(a_law, octets, samples):

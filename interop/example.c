@@ -43,10 +43,22 @@ int main(void)
     int32_t samples[6 * FRAMES];
 
     expect(v91_read_cp(cp, sizeof cp, CP_BITS, record, sizeof record) == 0, "the CP is refused");
-    expect(v91_write_cp(record, sizeof record, again, sizeof again) == CP_BITS, "the record is refused");
+    expect(record[V91_RECORD_DRN] == 1 && record[V91_RECORD_GRANTED] == 0 && record[V91_RECORD_INDEX(5)] == 0,
+           "other fields than the CP has");
+    for (int u = 0; u < 128; u++)
+        expect((record[V91_RECORD_UCODE(0, u)] >> u % 8 & 1) == (u < 6), "another mask than the CP has");
+    expect(v91_read_cp(cp, sizeof cp, CP_BITS, record, V91_RECORD_BYTES - 1) == V91_OUTPUT_TOO_SHORT, "a short record is taken");
+    uint32_t answer = v91_write_cp(record, sizeof record, again, sizeof again);
+    expect(!V91_REFUSED(answer) && answer == CP_BITS, "the record is refused");
     expect(memcmp(again, cp, sizeof cp) == 0, "the CP written is not the CP read");
 
+    record[V91_RECORD_INDEX(2)] = 1; /* a mask that is empty */
+    answer = v91_write_cp(record, sizeof record, again, sizeof again);
+    expect(V91_REFUSED(answer) && V91_NUMBER(answer) == V91_INTERVAL_EMPTY && V91_INTERVAL(answer) == 2, "an empty interval is taken");
+    record[V91_RECORD_INDEX(2)] = 0;
+
     memset(bits, 0xff, sizeof bits);
+    expect(sizeof bits == V91_DATA_BYTES(FRAMES, 1) && sizeof octets == V91_OCTETS(FRAMES), "other lengths than the header says");
     expect(v91_send(record, sizeof record, false, FRAMES, bits, sizeof bits,
                     octets, sizeof octets, sender, sizeof sender) == 0, "the sender refuses");
     expect(v91_receive(record, sizeof record, false, FRAMES, octets, sizeof octets, heard, sizeof heard,

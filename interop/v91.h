@@ -12,32 +12,20 @@
  * A flag counts as 1 where its byte is not 0, and is written as 0 or 1.
  *
  * Any arguments are allowed, as long as each pointer leads to as many elements as its length says (with
- * length 0 it may be null) and the buffers do not overlap. A refused call changes no buffer.
- * Elements beyond those named below stay as they are.
+ * length 0 it may be null), `samples` is aligned as int32_t is, and the buffers do not overlap. A refused
+ * call changes no buffer. Elements beyond those named below stay as they are.
  *
- * Refusals, in the order in which they are looked at; the first that applies is answered. Its number is
- * answer & 0xff; the rest of the answer is 0, save with 25:
- *    1  the bit count exceeds 8 x the bytes lent
- *    2  the bit count is below 294
- *    3  one of bits 0 to 16 is 0
- *    4  an interval index exceeds 5
- *    5  the bit count is not the length for the largest index
- *    6  a start bit is 1
- *    7  the CRC does not match
- *    8  bit 19 is 0, or one of 30 to 32 or 128 is 1
- *    9  drn exceeds 28
- *   10  granted is 1 and drn is not 28
- *   25  drn is 1 to 28 and an interval's mask is empty; the answer is 25 + (interval << 24) for the
- *       lowest such interval, 0 to 5
- *   11  drn is 1 to 28 and the product of the six mask sizes is below 2^K
- *   12  a mask above the largest index is not empty
- *   13  there are frames and drn is 0
- *   14  the history is 2^23 or more
- *   15  there are more than 1,024 frames
- *   16  a buffer to be read is shorter than needed
- *   17  a buffer to be written is shorter than needed
- * Before all of them: a record or line state lent in fewer than 105 or 5 bytes is answered with 16,
- * and with 17 where v91_read_cp is to write the record.
+ * The refusals are listed in the order in which they are looked at; the first that applies is answered. A
+ * record or line state that is read or updated and is lent in fewer bytes than it has is answered with 16
+ * before everything else, in the order of the parameters, since nothing can be said of it.
+ *
+ * The archive is for x86-64 with the System V calling convention; the toolchain makes no other. It has no
+ * data that is written: the functions keep nothing between calls, and may be called from several threads or
+ * interrupts at once, on buffers of their own. They allocate nothing, call no function but memset, and
+ * return. The stack is to be aligned to 16 bytes at the call, as the convention says. SSE2 registers
+ * (xmm0 to xmm15) are used, so an interrupt that calls a function has to save them; memory below the
+ * stack pointer is used as the convention allows (128 bytes, the red zone).
+ * (measured)
  */
 #ifndef V91_H
 #define V91_H
@@ -46,37 +34,93 @@
 #include <stddef.h>
 #include <stdint.h>
 
-#define V91_RECORD_BYTES 105
-#define V91_STATE_BYTES 5
-#define V91_CP_BYTES 122     /* the longest CP */
-#define V91_FRAMES 1024      /* the most frames of a call */
-
-/* The number of an answer that is a refusal, and the interval of one with the number 25. */
-#define V91_NUMBER(answer) ((answer) & 0xff)
-#define V91_INTERVAL(answer) ((answer) >> 24)
-
 #ifdef __cplusplus
 extern "C" {
 #endif
 
-/* Reads the CP of bit_count bits into the record. Answers 0 or a refusal, 1 to 11, 17 or 25. */
+/* Raised where a function, a layout or an answer changes. */
+#define V91_VERSION 1
+
+/* ---- refusals */
+
+enum v91_refusal {
+    V91_COUNT_EXCEEDS_BYTES = 1,     /* the bit count exceeds 8 x the bytes lent */
+    V91_COUNT_TOO_SMALL = 2,         /* the bit count is below 294 */
+    V91_SYNC_BROKEN = 3,             /* one of bits 0 to 16 is 0 */
+    V91_INDEX_TOO_LARGE = 4,         /* an interval index exceeds 5 */
+    V91_LENGTH_WRONG = 5,            /* the bit count is not the length for the largest index */
+    V91_START_BIT_SET = 6,           /* a start bit is 1 */
+    V91_CRC_MISMATCH = 7,            /* the CRC does not match */
+    V91_FIXED_BIT_WRONG = 8,         /* bit 19 is 0, or one of 30 to 32 or 128 is 1 */
+    V91_DRN_TOO_LARGE = 9,           /* drn exceeds 28 */
+    V91_GRANTED_BELOW_FULL_RATE = 10,/* granted is 1 and drn is not 28 */
+    V91_INTERVAL_EMPTY = 25,         /* drn is 1 to 28 and an interval's mask is empty; see V91_INTERVAL */
+    V91_PRODUCT_TOO_SMALL = 11,      /* drn is 1 to 28 and the product of the six mask sizes is below 2^K */
+    V91_MASK_ABOVE_INDICES = 12,     /* a mask above the largest index is not empty */
+    V91_FRAMES_AT_CLEARDOWN = 13,    /* there are frames and drn is 0 */
+    V91_HISTORY_TOO_LARGE = 14,      /* the history is 2^23 or more */
+    V91_TOO_MANY_FRAMES = 15,        /* there are more than 1,024 frames */
+    V91_INPUT_TOO_SHORT = 16,        /* a buffer to be read is shorter than needed */
+    V91_OUTPUT_TOO_SHORT = 17        /* a buffer to be written is shorter than needed */
+};
+
+/* Whether an answer is a refusal: it is 1 to 17, or 25 + (interval << 24). Else it is 0, or the bit count of
+   v91_write_cp, which is 294 to 972. */
+#define V91_REFUSED(answer) ((answer) != 0 && ((answer) < 294 || (answer) >= 1u << 24))
+
+/* Of an answer that is a refusal: its number; and with V91_INTERVAL_EMPTY the lowest such interval, 0 to 5. */
+#define V91_NUMBER(answer) ((answer) & 0xff)
+#define V91_INTERVAL(answer) ((answer) >> 24)
+
+/* ---- the record, by the places of its bytes */
+
+#define V91_RECORD_BYTES 105
+#define V91_RECORD_GRANTED 0
+#define V91_RECORD_DRN 1
+#define V91_RECORD_ACKNOWLEDGE 2
+#define V91_RECORD_INDEX(interval) (3 + (interval))         /* interval 0 to 5 */
+#define V91_RECORD_UCODE(mask, u) (9 + 16 * (mask) + (u) / 8) /* mask 0 to 5; Ucode u is the bit of weight 1 << u % 8 */
+
+/* ---- the line state */
+
+#define V91_STATE_BYTES 5
+#define V91_STATE_HISTORY 0                                  /* 4 bytes */
+#define V91_STATE_SIGN 4
+
+/* ---- lengths */
+
+#define V91_FRAME_BITS(drn) ((size_t)(drn) + 20)             /* D: the data bits of a frame; drn 1 to 28 */
+#define V91_DATA_BITS(frames, drn) ((size_t)(frames) * V91_FRAME_BITS(drn))
+#define V91_DATA_BYTES(frames, drn) ((V91_DATA_BITS(frames, drn) + 7) / 8)
+#define V91_OCTETS(frames) ((size_t)(frames) * 6)
+
+#define V91_FRAMES 1024                                      /* the most frames of a call, */
+#define V91_FRAMES_DATA_BYTES 6144                           /* the most bytes of data that it needs, */
+#define V91_FRAMES_OCTETS 6144                               /* and the most octets */
+#define V91_CP_BITS 972                                      /* the longest CP */
+#define V91_CP_BYTES 122
+
+/* ---- functions */
+
+/* Reads the CP of bit_count bits into the record. Answers 0 or a refusal: 1 to 10, 25, 11, and 17 last. */
 uint32_t v91_read_cp(const uint8_t *cp, size_t cp_len, size_t bit_count,
                      uint8_t *record, size_t record_len);
 
 /* Writes the record's CP, 37 to 122 bytes. Answers its bit count, which is 294 to 972, or a refusal:
-   4, 9 to 12, 16, 17 or 25. */
+   16 for a short record, 4, 9, 10, 25, 11, 12, 17. */
 uint32_t v91_write_cp(const uint8_t *record, size_t record_len, uint8_t *cp, size_t cp_len);
 
-/* Sends frames x (drn + 20) data bits as 6 x frames octets. Answers 0 or a refusal, 4, 9 to 17
-   or 25. After 0 the state is the one left, also where there are no frames. */
+/* Sends frames x (drn + 20) data bits as 6 x frames octets. Answers 0 or a refusal: 16 for a short record or
+   state, 4, 9, 10, 25, 11 to 17. After 0 the state is the one left; a call of no frames writes no byte. */
 uint32_t v91_send(const uint8_t *record, size_t record_len, bool a_law, size_t frames,
                   const uint8_t *bits, size_t bits_len, uint8_t *octets, size_t octets_len,
                   uint8_t *state, size_t state_len);
 
 /* Receives 6 x frames octets as frames x (drn + 20) data bits, with zeros up to the end of the last byte,
-   and one mark for each frame. Answers 0 or a refusal, 4, 9 to 17 or 25. After 0 the state is the one
-   left. Mark 0: a good frame. Mark 1 to 6: the first interval whose Ucode is not in its mask. Mark 7: the
-   number is 2^K or more. The bits of a marked frame are zeros. */
+   and one mark for each frame. Answers 0 or a refusal: 16 for a short record or state, 4, 9, 10, 25, 11 to 17.
+   After 0 the state is the one left; a call of no frames writes no byte. Mark 0: a good frame. Mark 1 to 6:
+   the first interval whose Ucode is not in its mask. Mark 7: the number is 2^K or more. The bits of a marked
+   frame are zeros. */
 uint32_t v91_receive(const uint8_t *record, size_t record_len, bool a_law, size_t frames,
                      const uint8_t *octets, size_t octets_len, uint8_t *bits, size_t bits_len,
                      uint8_t *marks, size_t marks_len, uint8_t *state, size_t state_len);

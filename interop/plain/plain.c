@@ -130,8 +130,6 @@ uint32_t plain_read_cp(const uint8_t *cp, size_t cp_len, size_t bit_count,
     struct record r = { 0 };
     unsigned g;
 
-    if (record_len < RECORD_BYTES)
-        return 17;
     if (bit_count / 8 + (bit_count % 8 != 0) > cp_len)
         return 1;
     if (bit_count < 294)
@@ -161,6 +159,8 @@ uint32_t plain_read_cp(const uint8_t *cp, size_t cp_len, size_t bit_count,
     uint32_t refusal = record_refusal(&r);
     if (refusal)
         return refusal;
+    if (record_len < RECORD_BYTES)
+        return 17;
     put_record(&r, record);
     return 0;
 }
@@ -322,7 +322,8 @@ uint32_t plain_send(const uint8_t *record, size_t record_len, bool a_law, size_t
             *octets++ = table[i][label] & (sign ? 0xFF : 0x7F);
         }
     }
-    put_state(state, past, sign);
+    if (frames > 0)
+        put_state(state, past, sign);
     return 0;
 }
 
@@ -382,7 +383,8 @@ uint32_t plain_receive(const uint8_t *record, size_t record_len, bool a_law, siz
     }
     if (holds)
         *bits = (uint8_t)held;
-    put_state(state, past, sign);
+    if (frames > 0)
+        put_state(state, past, sign);
     return 0;
 }
 

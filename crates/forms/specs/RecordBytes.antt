@@ -20,8 +20,11 @@ recordByte r k =
     cond (ltb k 1) (weight (r .granted))
     (cond (ltb k 2) (r .drn) (cond (ltb k 3) (weight (r .acknowledge)) (cond (ltb k 9) (indexOf r (k - 3)) (halfByte (r .mask) (k - 9)))))
 
+abbrev pub recordLength : ℕ
+recordLength = 105
+
 unfoldable pub recordBytes : Record → List ℕ
-recordBytes r = listFrom (recordByte r) 0 105
+recordBytes r = listFrom (recordByte r) 0 recordLength
 
 -- index i
 abbrev pub indexAt : List ℕ → ℕ → ℕ

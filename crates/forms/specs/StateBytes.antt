@@ -12,8 +12,11 @@ use Rattle.standard.specs.declared.LineState.{LineState}
 unfoldable pub stateByte : LineState → ℕ → ℕ
 stateByte st k = cond (ltb k 4) (st .history / 2 ^ (8 * k) % 256) (weight (st .sign))
 
+abbrev pub stateLength : ℕ
+stateLength = 5
+
 unfoldable pub stateBytes : LineState → List ℕ
-stateBytes st = listFrom (stateByte st) 0 5
+stateBytes st = listFrom (stateByte st) 0 stateLength
 
 -- the line state in the bytes s: the history is their first 32 bits; the sign is set where its byte is not 0
 unfoldable pub stateAt : List ℕ → LineState

@@ -11,8 +11,14 @@ ghost use Rattle.standard.specs.Lists.{listFrom};
 ghost use Rattle.standard.specs.Calls.{over};
 ghost use Rattle.standard.specs.Refusals.{refusalAnswer, outcomeAnswer};
 ghost use Rattle.forms.specs.Coded.{coded};
-ghost use Rattle.forms.specs.RecordBytes.{recordByte, recordBytes, indexAt, halfAt, recordAt};
-ghost use Rattle.forms.specs.StateBytes.{stateByte, stateBytes, stateAt};
+ghost use Rattle.forms.specs.RecordBytes.{recordLength, recordByte, recordBytes, indexAt, halfAt, recordAt};
+ghost use Rattle.forms.specs.StateBytes.{stateLength, stateByte, stateBytes, stateAt};
+
+// The bytes of a record.
+pub const RECORD_BYTES: usize = 105;
+
+// The bytes of a line state.
+pub const STATE_BYTES: usize = 5;
 
 // A refusal in one number.
 fn code_of_refusal(x: Refusal) -> u32
@@ -60,7 +66,7 @@ fn indices_at(bytes: &[u8]) -> [u8; 6]
 
 // The twelve halves of the masks, from byte 9 on.
 fn masks_at(bytes: &[u8]) -> [u64; 12]
-    requires { ⌜ 105 ≤ length (now bytes) ⌝ }
+    requires { ⌜ recordLength ≤ length (now bytes) ⌝ }
     ensures { λ x. ⌜ x ≡ listFrom (halfAt (now (bytes .entry))) 0 12 ⌝ }
 {
     let mut mask = [0u64; 12];
@@ -74,7 +80,7 @@ fn masks_at(bytes: &[u8]) -> [u64; 12]
 
 // The record in the first 105 bytes.
 pub fn record_from(bytes: &[u8]) -> Record
-    requires { ⌜ 105 ≤ length (now bytes) ⌝ }
+    requires { ⌜ recordLength ≤ length (now bytes) ⌝ }
     ensures { λ r. ⌜ r ≡ recordAt (now (bytes .entry)) ⌝ }
 {
     let index = indices_at(bytes);
@@ -107,7 +113,7 @@ fn head_into(r: Record, bytes: &mut [u8])
 
 // Puts a record into the first 105 bytes; the others stay.
 pub fn record_into(r: Record, bytes: &mut [u8])
-    requires { ⌜ 105 ≤ length (now bytes) ⌝ }
+    requires { ⌜ recordLength ≤ length (now bytes) ⌝ }
     ensures { λ x. ⌜ now (bytes .exit) ≡ over (recordBytes r) (now (bytes .entry)) ⌝ }
 {
     head_into(r, bytes);
@@ -121,7 +127,7 @@ pub fn record_into(r: Record, bytes: &mut [u8])
 
 // The line state in the first 5 bytes.
 pub fn state_from(bytes: &[u8]) -> LineState
-    requires { ⌜ 5 ≤ length (now bytes) ⌝ }
+    requires { ⌜ stateLength ≤ length (now bytes) ⌝ }
     ensures { λ r. ⌜ r ≡ stateAt (now (bytes .entry)) ⌝ }
 {
     LineState {
@@ -132,7 +138,7 @@ pub fn state_from(bytes: &[u8]) -> LineState
 
 // Byte k of a line state.
 fn state_byte(s: LineState, k: usize) -> u8
-    requires { ⌜ k < 5 ⌝ }
+    requires { ⌜ k < stateLength ⌝ }
     ensures { λ x. ⌜ x ≡ stateByte s k ⌝ }
 {
     if k < 4 {
@@ -143,11 +149,11 @@ fn state_byte(s: LineState, k: usize) -> u8
 
 // Puts a line state into the first 5 bytes; the others stay.
 pub fn state_into(s: LineState, bytes: &mut [u8])
-    requires { ⌜ 5 ≤ length (now bytes) ⌝ }
+    requires { ⌜ stateLength ≤ length (now bytes) ⌝ }
     ensures { λ x. ⌜ now (bytes .exit) ≡ over (stateBytes s) (now (bytes .entry)) ⌝ }
 {
     let mut k = 0;
-    while k < 5 {
+    while k < STATE_BYTES {
         bytes[k] = state_byte(s, k);
         k += 1;
     }

@@ -1,16 +1,18 @@
 -- What each function answers, from what its callees ensure. Assumes nothing.
 use mathlib.Core.Path.{_≡_, refl, sym, ap, _∙_}
+use mathlib.Core.Logic.{_⊎_, inl, inr}
 use Prim.Native.Nat.{ℕ, _^_, _≤_, _<_}
-use mathlib.Core.Bool.{Bool, true, false}
+use mathlib.Core.Bool.{Bool, true, false, true≢false, not, _&&_, _||_, and-eq-true-iff}
 use mathlib.Core.List.{List}
+use native.Mathlib.Nat.{eq-zero-or-pos}
 use native.Mathlib.Omega.{arith}
-use borrow.Author.Tests.{lt-ltb, le-ltb, eqb-true, eq-eqb}
-use lib.Dec.{lit<}
+use borrow.Author.Tests.{lt-ltb, le-ltb, ltb-false, eqb-true, eq-eqb, not-true}
+use lib.Dec.{eqb, ltb, lit<}
 use lib.ListN.{length}
-use Rattle.standard.specs.First.{first}
+use Rattle.standard.specs.First.{Answer, bare, Test, first}
 use Rattle.standard.specs.Record.{topIndex}
 use Rattle.standard.specs.Cp.{cpByteCount}
-use Rattle.standard.specs.Refusals.{outcomeAnswer, shorter, recordTests, writeTests}
+use Rattle.standard.specs.Refusals.{outcomeAnswer, shorter, recordTests, readTests, writeTests}
 use Rattle.standard.specs.Calls.{accepted, over, readCall, readRefusal, readRecord, WriteCall, writeCall, writeRefusal, writeBitCount}
 use Rattle.standard.specs.Calls.{writeBytes, sendCall, sendRefusal, sendLeft, sendOctets, receiveCall, receiveRefusal, receiveLeft}
 use Rattle.standard.specs.Calls.{receiveBytes, receiveMarked}
@@ -19,13 +21,14 @@ use Rattle.standard.specs.declared.LineState.{LineState}
 use Rattle.standard.specs.declared.Outcome.{Outcome}
 use Rattle.standard.specs.declared.Outcome.the-variants.{Done, Refused}
 use Rattle.standard.specs.declared.Record.{Record}
-use Rattle.standard.proofs.First.{none-first}
+use Rattle.standard.proofs.Lists.{or-none}
+use Rattle.standard.proofs.First.{None, none-first, first-append, first-left}
 use Rattle.standard.proofs.Stages.{refused-not}
-use Rattle.standard.proofs.Refusals.{top-lt, write-numbered}
+use Rattle.standard.proofs.Refusals.{top-lt, read-numbered, write-numbered}
 use Rattle.forms.specs.Coded.{coded}
-use Rattle.forms.specs.RecordBytes.{recordBytes, recordAt}
-use Rattle.forms.specs.StateBytes.{stateBytes, stateAt}
-use Rattle.v91_c.specs.Interface.{lawOf, answered, v91ReadCp, v91WriteCp, v91Send, v91Receive}
+use Rattle.forms.specs.RecordBytes.{recordLength, recordBytes, recordAt}
+use Rattle.forms.specs.StateBytes.{stateLength, stateBytes, stateAt}
+use Rattle.v91_c.specs.Interface.{lawOf, answered, frameAnswer, stateLeft, v91ReadCp, v91WriteCp, v91Send, v91Receive}
 
 -- ---- an outcome in one number: 0 where nothing is refused, and only there
 
@@ -39,6 +42,18 @@ module _ (o : Outcome) (k : ℕ) (ek : k ≡ coded (outcomeAnswer o)) where
       go : (x : Outcome) → x ≡ o → accepted (outcomeAnswer o) ≡ false
       go Done e = absurd (p (ek ∙ ap (λ (y : Outcome). coded (outcomeAnswer y)) (sym e)))
       go (Refused x) e = refused-not o x (outcomeAnswer o) (sym e) refl
+
+coded-zero : (o : Outcome) → accepted (outcomeAnswer o) ≡ true → coded (outcomeAnswer o) ≡ 0
+coded-zero Done e = refl
+coded-zero (Refused x) e = absurd (true≢false (sym e ∙ refused-not (Refused x) x _ refl refl))
+
+-- a list of tests that refuses
+refused-first : (ts : List Test) → accepted (first ts) ≡ false → 0 < first ts .number
+refused-first ts e = go (eq-zero-or-pos (first ts .number))
+  where
+    go : (first ts .number ≡ 0) ⊎ (0 < first ts .number) → 0 < first ts .number
+    go (inl z) = absurd (true≢false (sym (eq-eqb (first ts .number) 0 z) ∙ e))
+    go (inr p) = p
 
 -- ---- v91_write_cp
 
@@ -58,11 +73,11 @@ count-fits c = go (accepted (writeRefusal c)) refl
     go false e = rw e (lit< tt)
 
 module _ (rec cp : List ℕ) where
-  pub write-short : length rec < 105 → v91WriteCp rec cp ≡ record { answer = 16; cp = cp }
+  pub write-short : length rec < recordLength → v91WriteCp rec cp ≡ record { answer = 16; cp = cp }
   unfolding v91WriteCp answered first
   write-short h = rw (lt-ltb _ _ h)
 
-  module _ (long : 105 ≤ length rec) (r : Record) (er : r ≡ recordAt rec) (o : Outcome)
+  module _ (long : recordLength ≤ length rec) (r : Record) (er : r ≡ recordAt rec) (o : Outcome)
       (eo : outcomeAnswer o ≡ writeRefusal (writeCall r cp)) (k : ℕ) (ek : k ≡ coded (outcomeAnswer o)) (left : List ℕ)
       (el : left ≡ writeBytes (writeCall r cp)) where
     pub write-refused : (k ≡ 0 → ⊥) → v91WriteCp rec cp ≡ record { answer = k; cp = left }
@@ -75,73 +90,113 @@ module _ (rec cp : List ℕ) where
 
 -- ---- v91_read_cp
 
-module _ (cp : List ℕ) (n : ℕ) (rec : List ℕ) where
-  pub read-short : length rec < 105 → v91ReadCp cp n rec ≡ record { answer = 17; rec = rec }
-  unfolding v91ReadCp answered first
-  read-short h = rw (lt-ltb _ _ h)
+module _ (cp : List ℕ) (n : ℕ) (rec : List ℕ) (o : Outcome) (eo : outcomeAnswer o ≡ readRefusal (readCall cp n)) (k : ℕ)
+    (ek : k ≡ coded (outcomeAnswer o)) where
+  pub read-refused : (k ≡ 0 → ⊥) → v91ReadCp cp n rec ≡ record { answer = k; rec = rec }
+  unfolding v91ReadCp answered readRefusal
+  read-refused p =
+      let no = code-refused o k ek p in
+      rw (first-left (readTests cp n) _ (refused-first (readTests cp n) (ap accepted (sym eo) ∙ no)), ← eo, no, ek)
 
-  module _ (long : 105 ≤ length rec) (o : Outcome) (eo : outcomeAnswer o ≡ readRefusal (readCall cp n)) (k : ℕ)
-      (ek : k ≡ coded (outcomeAnswer o)) where
-    pub read-refused : (k ≡ 0 → ⊥) → v91ReadCp cp n rec ≡ record { answer = k; rec = rec }
-    unfolding v91ReadCp answered first
-    read-refused p = rw (le-ltb _ _ long, ← eo, code-refused o k ek p, ek)
+  module _ (z : k ≡ 0) where
+    none : None (readTests cp n)
+    unfolding readRefusal
+    none = none-first (readTests cp n) (read-numbered cp n) (eqb-true _ 0 (ap accepted (sym eo) ∙ code-done o k ek z))
 
-    pub read-done : k ≡ 0 → (r : Record) → r ≡ readRecord (readCall cp n) → (left : List ℕ) → left ≡ over (recordBytes r) rec
-        → v91ReadCp cp n rec ≡ record { answer = 0; rec = left }
+    pub read-short : length rec < recordLength → v91ReadCp cp n rec ≡ record { answer = 17; rec = rec }
     unfolding v91ReadCp answered first
-    read-done z r er left el = rw (le-ltb _ _ long, ← eo, code-done o k ek z, el, er)
+    read-short h = rw (first-append (readTests cp n) _ none, lt-ltb _ _ h)
+
+    pub read-done : recordLength ≤ length rec → (r : Record) → r ≡ readRecord (readCall cp n) → (left : List ℕ)
+        → left ≡ over (recordBytes r) rec → v91ReadCp cp n rec ≡ record { answer = 0; rec = left }
+    unfolding v91ReadCp answered first
+    read-done long r er left el = rw (first-append (readTests cp n) _ none, le-ltb _ _ long, el, er)
+
+-- ---- calls of frames
+
+-- a short record or line state, and neither
+module _ (rec state : List ℕ) (a : Answer) where
+  pub frame-short : (ltb (length rec) recordLength || ltb (length state) stateLength) ≡ true → frameAnswer rec state a ≡ bare 16
+  unfolding frameAnswer first
+  frame-short = go (ltb (length rec) recordLength) (ltb (length state) stateLength) refl refl
+    where
+      go : (x y : Bool) → ltb (length rec) recordLength ≡ x → ltb (length state) stateLength ≡ y → (x || y) ≡ true
+          → frameAnswer rec state a ≡ bare 16
+      go true y e f t = rw e
+      go false true e f t = rw (e, f)
+      go false false e f t = absurd (true≢false (sym t))
+
+  pub frame-long : (ltb (length rec) recordLength || ltb (length state) stateLength) ≡ false → frameAnswer rec state a ≡ a
+  unfolding frameAnswer first
+  frame-long h = let p = or-none (ltb (length rec) recordLength) (ltb (length state) stateLength) h in rw (p .0, p .1)
+
+-- where neither is short, both are long enough
+pub both-long : (rec state : ℕ) → (ltb rec recordLength || ltb state stateLength) ≡ false → (recordLength ≤ rec) × (stateLength ≤ state)
+both-long rec state h = let p = or-none _ _ h in (ltb-false _ _ (p .0), ltb-false _ _ (p .1))
+
+-- the end of a call of n frames with the outcome o: the bytes s of the line state after it
+abbrev Ended : Outcome → ℕ → LineState → List ℕ → List ℕ → Type 0
+Ended o n left state s = s ≡ answered (outcomeAnswer o) (stateLeft n left state) (λ k. state)
+
+module _ (o : Outcome) (k : ℕ) (ek : k ≡ coded (outcomeAnswer o)) (n : ℕ) (left : LineState) (state : List ℕ) where
+  pub end-put : (eqb k 0 && not (eqb n 0)) ≡ true → (0 ≡ coded (outcomeAnswer o)) × Ended o n left state (over (stateBytes left) state)
+  unfolding answered stateLeft
+  end-put t =
+      let p = and-eq-true-iff (eqb k 0) (not (eqb n 0)) .0 t in
+      let z = eqb-true k 0 (p .0) in
+      (sym z ∙ ek, rw (code-done o k ek z, not-true (eqb n 0) (p .1)))
+
+  pub end-kept : (eqb k 0 && not (eqb n 0)) ≡ false → Ended o n left state state
+  unfolding answered stateLeft
+  end-kept t = go (eqb n 0) refl (accepted (outcomeAnswer o)) refl
+    where
+      go : (x : Bool) → eqb n 0 ≡ x → (b : Bool) → accepted (outcomeAnswer o) ≡ b → Ended o n left state state
+      go x e false f = rw f
+      go true e true f = rw (f, e)
+      go false e true f = absurd (true≢false (sym (ap (λ (m : ℕ). eqb m 0 && true) (ek ∙ coded-zero o f)) ∙ rw e at t))
 
 -- ---- v91_send
 
 module _ (rec : List ℕ) (a : Bool) (n : ℕ) (bits octets state : List ℕ) where
-  pub send-short-record : length rec < 105 → v91Send rec a n bits octets state ≡ record { answer = 16; octets = octets; state = state }
-  unfolding v91Send answered first
-  send-short-record h = rw (lt-ltb _ _ h)
+  pub send-short : (ltb (length rec) recordLength || ltb (length state) stateLength) ≡ true
+      → v91Send rec a n bits octets state ≡ record { answer = 16; octets = octets; state = state }
+  unfolding v91Send answered
+  send-short h = rw (frame-short rec state _ h)
 
-  pub send-short-state : 105 ≤ length rec → length state < 5 → v91Send rec a n bits octets state
-      ≡ record { answer = 16; octets = octets; state = state }
-  unfolding v91Send answered first
-  send-short-state h g = rw (le-ltb _ _ h, lt-ltb _ _ g)
-
-  module _ (long : 105 ≤ length rec) (wide : 5 ≤ length state) (r : Record) (er : r ≡ recordAt rec) (st : LineState)
-      (es : st ≡ stateAt state) (l : Law) (el : l ≡ lawOf a)
-      (o : Outcome) (eo : outcomeAnswer o ≡ sendRefusal st (sendCall r l n bits octets)) (k : ℕ) (ek : k ≡ coded (outcomeAnswer o))
-      (os : List ℕ) (eos : os ≡ sendOctets st (sendCall r l n bits octets)) where
-    pub send-refused : (k ≡ 0 → ⊥) → v91Send rec a n bits octets state ≡ record { answer = k; octets = os; state = state }
-    unfolding v91Send answered first sendOctets
-    send-refused p = rw (le-ltb _ _ long, le-ltb _ _ wide, eos, ← er, ← es, ← el, ← eo, code-refused o k ek p, ek)
-
-    pub send-done : k ≡ 0 → (left : LineState) → left ≡ sendLeft st (sendCall r l n bits octets) → (s : List ℕ)
-        → s ≡ over (stateBytes left) state
-        → v91Send rec a n bits octets state ≡ record { answer = 0; octets = os; state = s }
-    unfolding v91Send answered first
-    send-done z left e s q = rw (le-ltb _ _ long, le-ltb _ _ wide, eos, q, e, ← er, ← es, ← el, ← eo, code-done o k ek z)
+  pub send-ended : (ltb (length rec) recordLength || ltb (length state) stateLength) ≡ false
+      → (r : Record) → r ≡ recordAt rec → (st : LineState) → st ≡ stateAt state → (l : Law) → l ≡ lawOf a
+      → (o : Outcome) → outcomeAnswer o ≡ sendRefusal st (sendCall r l n bits octets)
+      → (left : LineState) → left ≡ sendLeft st (sendCall r l n bits octets)
+      → (os : List ℕ) → os ≡ sendOctets st (sendCall r l n bits octets) → (k : ℕ) → k ≡ coded (outcomeAnswer o)
+      → (s : List ℕ) → Ended o n left state s → v91Send rec a n bits octets state ≡ record { answer = k; octets = os; state = s }
+  unfolding v91Send answered sendOctets
+  send-ended h r er st es l el o eo left e os eos k ek s q = go (accepted (outcomeAnswer o)) refl
+    where
+      go : (b : Bool) → accepted (outcomeAnswer o) ≡ b → v91Send rec a n bits octets state
+          ≡ record { answer = k; octets = os; state = s }
+      go true f = rw (frame-long rec state _ h, eos, q, e, ← er, ← es, ← el, ← eo, f, ek, coded-zero o f)
+      go false f = rw (frame-long rec state _ h, eos, q, ← er, ← es, ← el, ← eo, f, ek)
 
 -- ---- v91_receive
 
 module _ (rec : List ℕ) (a : Bool) (n : ℕ) (octets bits marks state : List ℕ) where
-  pub receive-short-record : length rec < 105 → v91Receive rec a n octets bits marks state
-      ≡ record { answer = 16; bits = bits; marks = marks; state = state }
-  unfolding v91Receive answered first
-  receive-short-record h = rw (lt-ltb _ _ h)
+  pub receive-short : (ltb (length rec) recordLength || ltb (length state) stateLength) ≡ true
+      → v91Receive rec a n octets bits marks state ≡ record { answer = 16; bits = bits; marks = marks; state = state }
+  unfolding v91Receive answered
+  receive-short h = rw (frame-short rec state _ h)
 
-  pub receive-short-state : 105 ≤ length rec → length state < 5 → v91Receive rec a n octets bits marks state
-      ≡ record { answer = 16; bits = bits; marks = marks; state = state }
-  unfolding v91Receive answered first
-  receive-short-state h g = rw (le-ltb _ _ h, lt-ltb _ _ g)
-
-  module _ (long : 105 ≤ length rec) (wide : 5 ≤ length state) (r : Record) (er : r ≡ recordAt rec) (st : LineState)
-      (es : st ≡ stateAt state) (l : Law) (el : l ≡ lawOf a)
-      (o : Outcome) (eo : outcomeAnswer o ≡ receiveRefusal st (receiveCall r l n octets bits marks)) (k : ℕ)
-      (ek : k ≡ coded (outcomeAnswer o)) (bs : List ℕ) (eb : bs ≡ receiveBytes st (receiveCall r l n octets bits marks))
-      (ms : List ℕ) (em : ms ≡ receiveMarked st (receiveCall r l n octets bits marks)) where
-    pub receive-refused : (k ≡ 0 → ⊥) → v91Receive rec a n octets bits marks state
-        ≡ record { answer = k; bits = bs; marks = ms; state = state }
-    unfolding v91Receive answered first receiveBytes receiveMarked
-    receive-refused p = rw (le-ltb _ _ long, le-ltb _ _ wide, eb, em, ← er, ← es, ← el, ← eo, code-refused o k ek p, ek)
-
-    pub receive-done : k ≡ 0 → (left : LineState) → left ≡ receiveLeft st (receiveCall r l n octets bits marks) → (s : List ℕ)
-        → s ≡ over (stateBytes left) state
-        → v91Receive rec a n octets bits marks state ≡ record { answer = 0; bits = bs; marks = ms; state = s }
-    unfolding v91Receive answered first
-    receive-done z left e s q = rw (le-ltb _ _ long, le-ltb _ _ wide, eb, em, q, e, ← er, ← es, ← el, ← eo, code-done o k ek z)
+  pub receive-ended : (ltb (length rec) recordLength || ltb (length state) stateLength) ≡ false
+      → (r : Record) → r ≡ recordAt rec → (st : LineState) → st ≡ stateAt state → (l : Law) → l ≡ lawOf a
+      → (o : Outcome) → outcomeAnswer o ≡ receiveRefusal st (receiveCall r l n octets bits marks)
+      → (left : LineState) → left ≡ receiveLeft st (receiveCall r l n octets bits marks)
+      → (bs : List ℕ) → bs ≡ receiveBytes st (receiveCall r l n octets bits marks)
+      → (ms : List ℕ) → ms ≡ receiveMarked st (receiveCall r l n octets bits marks) → (k : ℕ) → k ≡ coded (outcomeAnswer o)
+      → (s : List ℕ) → Ended o n left state s
+      → v91Receive rec a n octets bits marks state ≡ record { answer = k; bits = bs; marks = ms; state = s }
+  unfolding v91Receive answered receiveBytes receiveMarked
+  receive-ended h r er st es l el o eo left e bs eb ms em k ek s q = go (accepted (outcomeAnswer o)) refl
+    where
+      go : (b : Bool) → accepted (outcomeAnswer o) ≡ b → v91Receive rec a n octets bits marks state
+          ≡ record { answer = k; bits = bs; marks = ms; state = s }
+      go true f = rw (frame-long rec state _ h, eb, em, q, e, ← er, ← es, ← el, ← eo, f, ek, coded-zero o f)
+      go false f = rw (frame-long rec state _ h, eb, em, q, ← er, ← es, ← el, ← eo, f, ek)

@@ -1,17 +1,19 @@
 -- What each function of the C interface answers, and its buffers afterwards, as interop/v91.h has them. Assumes nothing.
 use Prim.Native.Nat.{ℕ}
 use mathlib.Core.Bool.{Bool, true, false, cond}
-use mathlib.Core.List.{List, [], _∷_}
+use mathlib.Core.List.{List, [], _∷_, _++_}
+use lib.Dec.{eqb}
 use Rattle.standard.specs.First.{Answer, Test, test, first}
-use Rattle.standard.specs.Refusals.{shorter}
-use Rattle.standard.specs.Calls.{accepted, over, readCall, readRefusal, readRecord, writeCall, writeRefusal, writeBitCount, writeBytes}
-use Rattle.standard.specs.Calls.{sendCall, sendRefusal, sendLeft, sendOctets, receiveCall, receiveRefusal, receiveLeft, receiveBytes}
-use Rattle.standard.specs.Calls.{receiveMarked}
+use Rattle.standard.specs.Refusals.{shorter, readTests}
+use Rattle.standard.specs.Calls.{accepted, over, readCall, readRecord, writeCall, writeRefusal, writeBitCount, writeBytes}
+use Rattle.standard.specs.Calls.{sendCall, sendRefusal, sendLeft, sendOctets}
+use Rattle.standard.specs.Calls.{receiveCall, receiveRefusal, receiveLeft, receiveBytes, receiveMarked}
 use Rattle.standard.specs.declared.Law.{Law}
 use Rattle.standard.specs.declared.Law.the-variants.{Mu, A}
+use Rattle.standard.specs.declared.LineState.{LineState}
 use Rattle.forms.specs.Coded.{coded}
-use Rattle.forms.specs.RecordBytes.{recordBytes, recordAt}
-use Rattle.forms.specs.StateBytes.{stateBytes, stateAt}
+use Rattle.forms.specs.RecordBytes.{recordLength, recordBytes, recordAt}
+use Rattle.forms.specs.StateBytes.{stateLength, stateBytes, stateAt}
 
 -- the flag a_law
 abbrev pub lawOf : Bool → Law
@@ -26,7 +28,7 @@ otherwise a = record { answer = a; applies = true }
 unfoldable pub answered : {X : Type 0} → Answer → X → (ℕ → X) → X
 answered a done refused = cond (accepted a) done (refused (coded a))
 
--- ---- v91_read_cp
+-- ---- v91_read_cp: the record is a buffer to be written, so 17 comes last
 
 pub record AfterRead : Type 0 where
   pub answer : ℕ
@@ -34,12 +36,11 @@ pub record AfterRead : Type 0 where
 
 unfoldable pub v91ReadCp : List ℕ → ℕ → List ℕ → AfterRead
 v91ReadCp cp bitCount rec =
-    let call = readCall cp bitCount in
-    answered (first (test 17 (shorter rec 105) ∷ otherwise (readRefusal call) ∷ []))
-    (record { answer = 0; rec = over (recordBytes (readRecord call)) rec })
+    answered (first (readTests cp bitCount ++ (test 17 (shorter rec recordLength) ∷ [])))
+    (record { answer = 0; rec = over (recordBytes (readRecord (readCall cp bitCount))) rec })
     (λ n. record { answer = n; rec = rec })
 
--- ---- v91_write_cp
+-- ---- v91_write_cp. A record or line state that is read or updated and is shorter than its form gets 16 before everything else
 
 pub record AfterWrite : Type 0 where
   pub answer : ℕ
@@ -48,11 +49,19 @@ pub record AfterWrite : Type 0 where
 unfoldable pub v91WriteCp : List ℕ → List ℕ → AfterWrite
 v91WriteCp rec cp =
     let call = writeCall (recordAt rec) cp in
-    answered (first (test 16 (shorter rec 105) ∷ otherwise (writeRefusal call) ∷ []))
+    answered (first (test 16 (shorter rec recordLength) ∷ otherwise (writeRefusal call) ∷ []))
     (record { answer = writeBitCount call; cp = writeBytes call })
     (λ n. record { answer = n; cp = cp })
 
 -- ---- v91_send
+
+-- what a call of frames is answered: a short record, then a short line state, then the entry's own answer
+unfoldable pub frameAnswer : List ℕ → List ℕ → Answer → Answer
+frameAnswer rec state a = first (test 16 (shorter rec recordLength) ∷ test 16 (shorter state stateLength) ∷ otherwise a ∷ [])
+
+-- the bytes of the line state after an accepted call: 'N = 0 .. then writes nothing and keeps the state'
+unfoldable pub stateLeft : ℕ → LineState → List ℕ → List ℕ
+stateLeft frames st state = cond (eqb frames 0) state (over (stateBytes st) state)
 
 pub record AfterSend : Type 0 where
   pub answer : ℕ
@@ -63,8 +72,8 @@ unfoldable pub v91Send : List ℕ → Bool → ℕ → List ℕ → List ℕ →
 v91Send rec aLaw frames bits octets state =
     let st = stateAt state in
     let call = sendCall (recordAt rec) (lawOf aLaw) frames bits octets in
-    answered (first (test 16 (shorter rec 105) ∷ test 16 (shorter state 5) ∷ otherwise (sendRefusal st call) ∷ []))
-    (record { answer = 0; octets = sendOctets st call; state = over (stateBytes (sendLeft st call)) state })
+    answered (frameAnswer rec state (sendRefusal st call))
+    (record { answer = 0; octets = sendOctets st call; state = stateLeft frames (sendLeft st call) state })
     (λ n. record { answer = n; octets = octets; state = state })
 
 -- ---- v91_receive
@@ -79,12 +88,11 @@ unfoldable pub v91Receive : List ℕ → Bool → ℕ → List ℕ → List ℕ 
 v91Receive rec aLaw frames octets bits marks state =
     let st = stateAt state in
     let call = receiveCall (recordAt rec) (lawOf aLaw) frames octets bits marks in
-    answered (first (test 16 (shorter rec 105) ∷ test 16 (shorter state 5) ∷ otherwise (receiveRefusal st call) ∷ []))
+    answered (frameAnswer rec state (receiveRefusal st call))
     (record {
       answer = 0;
       bits = receiveBytes st call;
       marks = receiveMarked st call;
-      state = over
-          (stateBytes (receiveLeft st call)) state;
+      state = stateLeft frames (receiveLeft st call) state;
     })
     (λ n. record { answer = n; bits = bits; marks = marks; state = state })

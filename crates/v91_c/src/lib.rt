@@ -1,15 +1,19 @@
 // The C interface: interop/v91.h declares these functions.
+use forms::RECORD_BYTES;
+use forms::STATE_BYTES;
+use standard::FramesDone;
 use standard::Law;
 ghost use mathlib.Core.Path.{_≡_};
+ghost use Prim.Native.Nat.{_≤_};
+ghost use mathlib.Core.Bool.{_||_};
+ghost use lib.Dec.{ltb};
+ghost use lib.ListN.{length};
+ghost use Rattle.standard.specs.Refusals.{outcomeAnswer};
 ghost use Rattle.standard.specs.Calls.{linearCall, linearRefusal, linearSamples};
 ghost use Rattle.forms.specs.Coded.{coded};
-ghost use Rattle.v91_c.specs.Interface.{lawOf, v91ReadCp, v91WriteCp, v91Send, v91Receive};
-
-// The bytes of a record.
-const RECORD_BYTES: usize = 105;
-
-// The bytes of a line state.
-const STATE_BYTES: usize = 5;
+ghost use Rattle.forms.specs.RecordBytes.{recordLength};
+ghost use Rattle.forms.specs.StateBytes.{stateLength};
+ghost use Rattle.v91_c.specs.Interface.{lawOf, answered, stateLeft, v91ReadCp, v91WriteCp, v91Send, v91Receive};
 
 // The law that the flag `a_law` names.
 fn law_of(a_law: bool) -> Law
@@ -53,17 +57,40 @@ pub extern "C" fn v91_write_cp(rec: &[u8], cp: &mut [u8]) -> u32
 pub extern "C" fn v91_read_cp(cp: &[u8], bit_count: usize, rec: &mut [u8]) -> u32
     ensures { λ r. ⌜ v91ReadCp (now (cp .entry)) «bit_count» (now (rec .entry)) ≡ record { answer = r; rec = now (rec .exit) } ⌝ }
 {
-    if rec.len() < RECORD_BYTES {
-        return 17;
-    }
     let read = cp::read_cp(cp, bit_count);
     let outcome = read.outcome;
     let refusal = forms::code_of(outcome);
     if refusal != 0 {
         return refusal;
     }
+    if rec.len() < RECORD_BYTES {
+        return 17;
+    }
     forms::record_into(read.record, rec);
     0
+}
+
+// Whether a record or a line state is lent in fewer bytes than it has.
+fn lent_short(rec: usize, state: usize) -> bool
+    ensures { λ x. ⌜ x ≡ (ltb rec recordLength || ltb state stateLength) ⌝ }
+{
+    (rec < RECORD_BYTES) | (state < STATE_BYTES)
+}
+
+// Ends a call of frames: answers its outcome, and puts the line state left into its bytes where it is accepted and has frames.
+fn end_call(done: FramesDone, frames: usize, state: &mut [u8]) -> u32
+    requires { ⌜ stateLength ≤ length (now state) ⌝ }
+    ensures { λ r. ⌜ (r ≡ coded (outcomeAnswer (done .outcome)))
+        × (now (state .exit) ≡ answered (outcomeAnswer (done .outcome)) (stateLeft frames (done .state) (now (state .entry)))
+        (λ n. now (state .entry))) ⌝ }
+{
+    let outcome = done.outcome;
+    let refusal = forms::code_of(outcome);
+    if (refusal == 0) & (frames != 0) {
+        forms::state_into(done.state, state);
+        return 0;
+    }
+    refusal
 }
 
 // Sends frames of data bits as octets, from the line state and to the one left.
@@ -79,22 +106,13 @@ pub extern "C" fn v91_send(
     ensures { λ r. ⌜ v91Send (now (rec .entry)) «a_law» frames (now (bits .entry)) (now (octets .entry)) (now (state .entry))
         ≡ record { answer = r; octets = now (octets .exit); state = now (state .exit) } ⌝ }
 {
-    if rec.len() < RECORD_BYTES {
-        return 16;
-    }
-    if state.len() < STATE_BYTES {
+    if lent_short(rec.len(), state.len()) {
         return 16;
     }
     let r = forms::record_from(rec);
     let line = forms::state_from(state);
     let done = codec::send(r, law_of(a_law), frames, line, bits, octets);
-    let outcome = done.outcome;
-    let refusal = forms::code_of(outcome);
-    if refusal != 0 {
-        return refusal;
-    }
-    forms::state_into(done.state, state);
-    0
+    end_call(done, frames, state)
 }
 
 // Receives octets as data bits and a mark for each frame, from the line state and to the one left.
@@ -112,20 +130,11 @@ pub extern "C" fn v91_receive(
         (now (state .entry))
         ≡ record { answer = r; bits = now (bits .exit); marks = now (marks .exit); state = now (state .exit) } ⌝ }
 {
-    if rec.len() < RECORD_BYTES {
-        return 16;
-    }
-    if state.len() < STATE_BYTES {
+    if lent_short(rec.len(), state.len()) {
         return 16;
     }
     let r = forms::record_from(rec);
     let line = forms::state_from(state);
     let done = codec::receive(r, law_of(a_law), frames, line, octets, bits, marks);
-    let outcome = done.outcome;
-    let refusal = forms::code_of(outcome);
-    if refusal != 0 {
-        return refusal;
-    }
-    forms::state_into(done.state, state);
-    0
+    end_call(done, frames, state)
 }

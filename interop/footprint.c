@@ -1,0 +1,76 @@
+/* The stack that each function of the archive uses: it is called on a stack of its own that was painted before, and what is no longer as
+   painted was used. A call of nothing is made in the same way, and what that uses is taken off. */
+#include "v91.h"
+
+#include <stdio.h>
+#include <stdlib.h>
+#include <string.h>
+#include <ucontext.h>
+
+enum { STACK = 1 << 16, PAINT = 0xa5 };
+
+static uint8_t record[V91_RECORD_BYTES], cp[V91_CP_BYTES], state[V91_STATE_BYTES], marks[V91_FRAMES];
+static uint8_t bits[V91_FRAMES_DATA_BYTES], octets[V91_FRAMES_OCTETS];
+static int32_t samples[V91_FRAMES_OCTETS];
+static uint32_t answer;
+
+static void nothing(void) { answer = 0; }
+static void write_cp(void) { answer = v91_write_cp(record, sizeof record, cp, sizeof cp); }
+static void read_cp(void) { answer = v91_read_cp(cp, sizeof cp, V91_CP_BITS, record, sizeof record); }
+static void send(void)
+{
+    answer = v91_send(record, sizeof record, false, V91_FRAMES, bits, sizeof bits, octets, sizeof octets, state, sizeof state);
+}
+static void receive(void)
+{
+    answer = v91_receive(record, sizeof record, false, V91_FRAMES, octets, sizeof octets, bits, sizeof bits, marks, sizeof marks,
+                         state, sizeof state);
+}
+static void linear(void) { answer = v91_linear(true, octets, sizeof octets, samples, V91_FRAMES_OCTETS); }
+
+static size_t used_by(void (*call)(void))
+{
+    static uint8_t stack[STACK] __attribute__((aligned(64)));
+    static ucontext_t here, there;
+    size_t untouched = 0;
+
+    memset(stack, PAINT, sizeof stack);
+    getcontext(&there);
+    there.uc_stack.ss_sp = stack;
+    there.uc_stack.ss_size = sizeof stack;
+    there.uc_link = &here;
+    makecontext(&there, call, 0);
+    swapcontext(&here, &there);
+    while (untouched < STACK && stack[untouched] == PAINT)
+        untouched++;
+    return STACK - untouched;
+}
+
+static void show(const char *name, void (*call)(void), uint32_t wanted)
+{
+    size_t used = used_by(call), own = used_by(nothing);
+
+    used = used_by(call); /* once more, so that nothing that is done once is counted */
+    if (answer != wanted) {
+        fprintf(stderr, "footprint: %s answers %u\n", name, answer);
+        exit(1);
+    }
+    printf("stack of %s: %zu bytes\n", name, used - own);
+}
+
+int main(void)
+{
+    /* six full masks, one for each interval, at the highest rate */
+    memset(record + V91_RECORD_UCODE(0, 0), 0xff, sizeof record - V91_RECORD_UCODE(0, 0));
+    record[V91_RECORD_DRN] = 28;
+    for (int i = 0; i < 6; i++)
+        record[V91_RECORD_INDEX(i)] = (uint8_t)i;
+    for (size_t i = 0; i < sizeof bits; i++)
+        bits[i] = (uint8_t)(i * 37);
+    show("v91_write_cp", write_cp, V91_CP_BITS);
+    show("v91_read_cp", read_cp, 0);
+    show("v91_send", send, 0);
+    show("v91_receive", receive, 0);
+    show("v91_linear", linear, 0);
+    return 0;
+}
