@@ -32,6 +32,7 @@ use Rattle.standard.proofs.Modulus.{within-listFrom, number-lt}
 use Rattle.standard.proofs.Octets.{ucode-lt}
 use Rattle.standard.proofs.Frame.{mark-zero}
 use Rattle.theorems.specs.Examples.{all, table, full, emptyTwice, ExamplesHold}
+use Rattle.theorems.proofs.Fewer.{one-fewer}
 
 rows-hold : all table ≡ true
 unfolding table listFrom any largest parts joined each after first bitAt bitsIn field bytesOf nth numberOf bitsOf topIndex inMask crcStep
@@ -72,4 +73,10 @@ unfolding first recordTests rateTests emptyTests emptyTest indexTooLarge drnTooL
 lowest-empty = refl
 
 pub examples : ExamplesHold
-examples = record { rows = rows-hold; neverSeven = λ l os e. suc-ne-zero 6 (sym e ∙ never l os); lowestEmpty = lowest-empty }
+examples =
+    record {
+      rows = rows-hold;
+      neverSeven = λ l os e. suc-ne-zero 6 (sym e ∙ never l os);
+      oneFewer = one-fewer;
+      lowestEmpty = lowest-empty;
+    }

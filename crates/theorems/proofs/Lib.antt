@@ -2,8 +2,11 @@ pub mod Ends
 pub mod Doubt
 pub mod OverCalls
 pub mod Runs
+pub mod Fewer
 pub mod Examples
 pub mod WriteRead
 pub mod ReadWrite
 pub mod Instance
 pub mod Empty
+pub mod Lengths
+pub mod Ignored

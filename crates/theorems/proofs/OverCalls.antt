@@ -81,6 +81,22 @@ module _ {S C F : Type 0} (accepts : S → C → Bool) (left : S → C → S) (P
       go true e h k = some e (length-append (frames st c) fs) (rw e at h) k (eq-zero-or-pos (length (frames st c)))
       go false e h k = k (rw e at h)
 
+-- calls that give nothing, end to end
+pub nothing-over : {S C X : Type 0} (accepts : S → C → Bool) (left : S → C → S) (P : C → Type 0) (part : S → C → List X)
+    → ((st : S) (c : C) → accepts st c ≡ true → P c → part st c ≡ []) → (st : S) (cs : List C) → AllCalls accepts left P st cs
+    → overCalls accepts left part st cs ≡ []
+unfolding overCalls AllCalls
+nothing-over accepts left P part none st [] w = refl
+nothing-over {X = X} accepts left P part none st (c ∷ cs) w = go (accepts st c) refl
+    (nothing-over accepts left P part none (left st c) cs (w .1))
+  where
+    rest : List X
+    rest = overCalls accepts left part (left st c) cs
+
+    go : (b : Bool) → accepts st c ≡ b → rest ≡ [] → cond (accepts st c) (part st c) [] ++ rest ≡ []
+    go true e k = rw e (ap₂ _++_ (none st c e (w .0 e)) k)
+    go false e k = rw e k
+
 -- frames of one width fit in any state, and only they
 fits-sized : {S X : Type 0} (next : S → List X → S) (w : ℕ) (st : S) (fs : List (List X)) → Fits next (λ st f. length f ≡ w) st fs
     → Sized w fs

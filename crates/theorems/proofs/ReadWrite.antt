@@ -19,7 +19,7 @@ use Rattle.standard.specs.Cp.{gamma, cpLength, cpByteCount, runPlace, Field, co
 use Rattle.standard.specs.Cp.{maskBitIn, halfIn, recordIn, crcMatches, startBitSet, within, reserved, ignored}
 use Rattle.standard.specs.Refusals.{shorter, countExceedsBytes, syncBroken, lengthWrong, fixedBitWrong, maskAboveIndices, rateTests}
 use Rattle.standard.specs.Refusals.{recordTests, readTests, writeTests}
-use Rattle.standard.specs.Calls.{accepted, over, readRefusal, readRecord, writeRefusal, writeBytes}
+use Rattle.standard.specs.Calls.{accepted, over, readRefusal, readRecord, writeRefusal, writeBitCount, writeBytes}
 use Rattle.standard.specs.declared.Record.{Record}
 use Rattle.standard.proofs.Lists.{getD-list, any-none, or-none, every, every-at, T→true, largest-ext}
 use Rattle.standard.proofs.First.{None, first-none, none-first, none-at, none-append}
@@ -275,21 +275,22 @@ module _ (s : List ℕ) (n : ℕ) (ok : first (readTests s n) .number ≡ 0) whe
       )
 
 -- what is to be shown of the record x that was read
-abbrev Back : List ℕ → Record → Type 0
-Back s x =
+abbrev Back : List ℕ → ℕ → Record → Type 0
+Back s n x =
     ((k : ℕ) → k < 8 * cpByteCount (topIndex x) → ignored (topIndex x) k ≡ true → bitAt s k ≡ false)
     → (buffer : List ℕ) → cpByteCount (topIndex x) ≤ length buffer
     → (accepted (writeRefusal (record { cp = x; bytes = buffer })) ≡ true)
     × (writeBytes (record { cp = x; bytes = buffer }) ≡ over (take (cpByteCount (topIndex x)) s) buffer)
+    × (writeBitCount (record { cp = x; bytes = buffer }) ≡ n)
 
-back : (s : List ℕ) (n : ℕ) → ((i : ℕ) → getD s i 0 < 256) → first (readTests s n) .number ≡ 0 → Back s (recordIn (bitAt s))
-unfolding writeRefusal writeBytes
+back : (s : List ℕ) (n : ℕ) → ((i : ℕ) → getD s i 0 < 256) → first (readTests s n) .number ≡ 0 → Back s n (recordIn (bitAt s))
+unfolding writeRefusal writeBytes writeBitCount
 back s n bytes ok zeros buffer h =
     let none = ap accepted
     (write-none s n ok (shorter buffer (cpByteCount (topIndex (recordIn (bitAt s)))))
     (le-ltb (length buffer) (cpByteCount (topIndex (recordIn (bitAt s)))) h)) in
-    (none, rw none (ap (λ (x : List ℕ). over x buffer) (same-bytes s n ok zeros bytes)))
+    (none, rw none (ap (λ (x : List ℕ). over x buffer) (same-bytes s n ok zeros bytes)), rw none (sym (count-is s n ok)))
 
 pub read-then-write : ReadThenWrite
 unfolding readRefusal readRecord
-read-then-write c bytes ok = subst (Back (c .bytes)) (sym (rw ok)) (back (c .bytes) (c .bitCount) bytes (eqb-true _ 0 ok))
+read-then-write c bytes ok = subst (Back (c .bytes) (c .bitCount)) (sym (rw ok)) (back (c .bytes) (c .bitCount) bytes (eqb-true _ 0 ok))

@@ -1,29 +1,35 @@
--- Demand 3. Assumes nothing.
+-- Demand 3; two messages; cleardown. Assumes nothing.
 use mathlib.Core.Path.{_≡_, refl, sym, ap, _∙_, subst}
 use mathlib.Core.Logic.{_⊎_, inl, inr}
 use Prim.Native.Nat.{ℕ, zero, suc, _+_, _*_, _≤_, _<_}
-use mathlib.Core.Bool.{Bool, false}
+use mathlib.Core.Bool.{Bool, true, false}
 use mathlib.Core.List.{List, [], _∷_, map}
 use native.Mathlib.Decide.{decLe}
-use native.Mathlib.Nat.{le-trans, mul-le-mul-right, lt-of-mul-lt-mul-right, not-suc-le-zero, eq-of-mul-eq-mul-right}
+use native.Mathlib.Nat.{le-trans, mul-le-mul-right, lt-of-mul-lt-mul-right, not-suc-le-zero, eq-of-mul-eq-mul-right, eq-zero-or-pos}
+use native.Mathlib.Nat.{zero-mul}
 use native.Mathlib.Omega.{arith}
+use borrow.Author.Tests.{le-leb, eqb-false}
+use lib.Dec.{leb}
 use lib.ListN.{length, getD, take, length-map}
 use lib.Seq.{ext-getD, length-take-le, getD-take}
-use Rattle.standard.specs.Lists.{joined, each}
-use Rattle.standard.specs.Bits.{nth}
+use Rattle.standard.specs.Lists.{listFrom, joined, each}
+use Rattle.standard.specs.Bits.{bitsIn, nth}
 use Rattle.standard.specs.Record.{D}
 use Rattle.standard.specs.Frame.{dataBits, sendFrame, sendNext, receiveFrame, receiveNext, mark}
+use Rattle.standard.specs.Refusals.{framesAtCleardown}
+use Rattle.standard.specs.Calls.{SendCall, sendRefusal, sendBits, sendLeft, sendOctets}
 use Rattle.standard.specs.declared.Law.{Law}
 use Rattle.standard.specs.declared.LineState.{LineState}
 use Rattle.standard.specs.declared.Record.{Record}
 use Rattle.standard.proofs.Lists.{Sized, sized-at, length-joined, joined-at, joined-inj, length-each, sized-each}
 use Rattle.standard.proofs.Modulus.{positive-factor}
 use Rattle.standard.proofs.Frame.{Holds, sent-mark, length-sendFrame, length-receiveFrame}
-use Rattle.theorems.specs.Runs.{message, Damage, clean, frames, Outside, Unaltered, Carried, reach, Beyond, Same, Delivered}
-use Rattle.theorems.specs.Runs.{RunsDeliver, MessagesDiffer}
+use Rattle.standard.proofs.Refusals.{and-false-right, passed}
+use Rattle.theorems.specs.Runs.{sends, message, sent, SendsWith, Damage, clean, frames, Outside, Unaltered, Carried}
+use Rattle.theorems.specs.Runs.{reach, Beyond, Same, Delivered, RunsDeliver, MessagesDiffer, NothingAtCleardown}
 use Rattle.theorems.proofs.Ends.{start, past-damage}
 use Rattle.theorems.proofs.Doubt.{Near, near-any, near-same, link, mends}
-use Rattle.theorems.proofs.OverCalls.{SendRun, send-run, ReceiveRun, receive-run, sized-fits, map-whole}
+use Rattle.theorems.proofs.OverCalls.{nothing-over, SendRun, send-run, ReceiveRun, receive-run, sized-fits, map-whole}
 
 -- ---- frames of one width w: frame q begins at q * w, and no frame begins past the end
 
@@ -213,3 +219,31 @@ module _ (r : Record) (l : Law) (s : LineState) where
 
 pub messages-differ : MessagesDiffer
 messages-differ r l s one other a b e o = same-message r l s _ _ _ _ (send-run r l s one a) (send-run r l s other b) e o
+
+-- ---- cleardown
+
+-- an accepted call at drn 0 has no frames
+no-frames : (st : LineState) (c : SendCall) → sends st c ≡ true → c .cp .drn ≡ 0 → c .frames ≡ 0
+unfolding sendRefusal framesAtCleardown
+no-frames st c e z = go (eq-zero-or-pos (c .frames))
+  where
+    go : (c .frames ≡ 0) ⊎ (0 < c .frames) → c .frames ≡ 0
+    go (inl n) = n
+    go (inr h) = absurd
+        (eqb-false (c .cp .drn) 0
+        (and-false-right (leb 1 (c .frames)) _ (le-leb 1 (c .frames) h) (passed (c .cp) st (c .frames) _ _ e .rated)) z)
+
+pub nothing-at-cleardown : NothingAtCleardown
+unfolding message sent SendsWith sendBits bitsIn listFrom
+nothing-at-cleardown r l s sending z w = (
+  nothing-over sends sendLeft With (λ st c. sendBits c)
+      (λ st c e k. let n = ap (λ (x : ℕ). dataBits (c .cp) x) (none st c e k) ∙ zero-mul (D (c .cp)) in rw n) s sending w,
+  nothing-over sends sendLeft With (λ st c. take (6 * c .frames) (sendOctets st c))
+      (λ st c e k. let n : 6 * c .frames ≡ 0 = omega (arith, none st c e k) in rw n) s sending w,
+)
+  where
+    With : SendCall → Type 0
+    With c = (c .cp ≡ r) × (c .law ≡ l)
+
+    none : (st : LineState) (c : SendCall) → sends st c ≡ true → With c → c .frames ≡ 0
+    none st c e k = no-frames st c e (ap (λ (x : Record). x .drn) (k .0) ∙ z)

@@ -1,19 +1,19 @@
 -- Document 01, 'Bench examples': B1 to B12 as one table and one statement; an example of document 02 beside it. Assumes nothing.
 use mathlib.Core.Path.{_≡_}
-use Prim.Native.Nat.{ℕ, suc, _+_, _-_}
+use Prim.Native.Nat.{ℕ, suc, _+_, _-_, _<_}
 use mathlib.Core.Bool.{Bool, true, false, not, _&&_}
 use mathlib.Core.List.{List, [], _∷_}
 use lib.Dec.{eqb}
 use lib.ListN.{drop, replicate}
-use Rattle.standard.specs.First.{valued, first}
+use Rattle.standard.specs.First.{bare, valued, first}
 use Rattle.standard.specs.Bits.{numberOf}
 use Rattle.standard.specs.Record.{K, topIndex}
 use Rattle.standard.specs.Cp.{gamma, cpLength, cpBytes}
-use Rattle.standard.specs.Constellation.{point, sizes}
+use Rattle.standard.specs.Constellation.{member, point, sizes}
 use Rattle.standard.specs.Modulus.{product}
 use Rattle.standard.specs.Octets.{octet}
 use Rattle.standard.specs.Frame.{lineBits, fresh, sendFrames, sendAfter, receivedNumber, mark, receiveFrames}
-use Rattle.standard.specs.Refusals.{recordTests}
+use Rattle.standard.specs.Refusals.{indexTooLarge, intervalEmpty, recordTests}
 use Rattle.standard.specs.Calls.{readRefusal}
 use Rattle.standard.specs.declared.Law.{Law}
 use Rattle.standard.specs.declared.Law.the-variants.{Mu, A}
@@ -125,7 +125,7 @@ table =
     (eqb (K fiveOnce) 15 && sameList (sizes fiveOnce) (6 ∷ 6 ∷ 6 ∷ 6 ∷ 6 ∷ 5 ∷ []) && eqb (product (sizes fiveOnce)) 38_880 && eqb
     (fault fiveOnce) 0
     && sameList (sizes fiveTwice) (6 ∷ 6 ∷ 6 ∷ 6 ∷ 5 ∷ 5 ∷ []) && eqb (product (sizes fiveTwice)) 32_400 && eqb (fault fiveTwice) 11) ∷
-    -- B10, but for its 'never'
+    -- B10, but for its 'never' and its every Ucode
     (eqb (K full) 42 && eqb (fault full) 0 && eqb (fault (twoMasks 28 word word (word - 1) (0 ∷ 0 ∷ 0 ∷ 0 ∷ 0 ∷ 1 ∷ []))) 11) ∷
     -- B11
     sameList (octet Mu true 64 ∷ octet Mu false 64 ∷ octet A true 64 ∷ octet A false 64 ∷ []) (0xbf ∷ 0x3f ∷ 0x95 ∷ 0x15 ∷ []) ∷
@@ -138,5 +138,8 @@ pub record ExamplesHold : Type 0 where
   pub rows : all table ≡ true
   -- B10: 'mark 7 never occurs', whatever the octets
   pub neverSeven : (l : Law) (os : List ℕ) → mark full l os ≡ 7 → ⊥
+  -- B10: 'one Ucode fewer gets 11', whichever Ucode u and interval i: at K = 42, with no index above 5 and no mask empty (which gets 25)
+  pub oneFewer : (r : Record) (i u : ℕ) → i < 6 → u < 128 → member r i u ≡ false → r .drn ≡ 28 → indexTooLarge r ≡ false
+      → ((k : ℕ) → k < 6 → intervalEmpty r k ≡ false) → first (recordTests r) ≡ bare 11
   -- A.8: 25 'with the lowest such interval'
   pub lowestEmpty : first (recordTests emptyTwice) ≡ valued 25 2

@@ -2,3 +2,5 @@ pub mod Runs
 pub mod Examples
 pub mod RoundTrip
 pub mod Empty
+pub mod Lengths
+pub mod Ignored

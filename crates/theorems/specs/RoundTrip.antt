@@ -1,5 +1,5 @@
 -- Document 01, 'CP': 'Writing then reading returns the record. Reading then writing returns the 37 to 122 bytes exactly where all ignored
--- bits were zero.' Assumes nothing.
+-- bits were zero. The reader returns the record, the writer the bit count.' Assumes nothing.
 use mathlib.Core.Path.{_≡_}
 use Prim.Native.Nat.{ℕ, _*_, _^_, _≤_, _<_}
 use mathlib.Core.Bool.{true, false}
@@ -40,3 +40,4 @@ ReadThenWrite =
     → (buffer : List ℕ) → cpByteCount (readTop c) ≤ length buffer
     → (accepted (writeRefusal (writeBack c buffer)) ≡ true)
     × (writeBytes (writeBack c buffer) ≡ over (take (cpByteCount (readTop c)) (c .bytes)) buffer)
+    × (writeBitCount (writeBack c buffer) ≡ c .bitCount)

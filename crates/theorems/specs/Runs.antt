@@ -133,3 +133,9 @@ abbrev pub MessagesDiffer : Type 0
 MessagesDiffer =
     (r : Record) (l : Law) (s : LineState) (one other : List SendCall) → SendsWith r l s one → SendsWith r l s other
     → length (message s one) ≡ length (message s other) → sent s one ≡ sent s other → message s one ≡ message s other
+
+-- 'With drn 0 no frame is ever sent.'
+abbrev pub NothingAtCleardown : Type 0
+NothingAtCleardown =
+    (r : Record) (l : Law) (s : LineState) (sending : List SendCall) → r .drn ≡ 0 → SendsWith r l s sending
+    → (message s sending ≡ []) × (sent s sending ≡ [])
