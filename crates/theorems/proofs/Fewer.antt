@@ -23,6 +23,7 @@ use Rattle.standard.proofs.Lists.{getD-list, none-any}
 use Rattle.standard.proofs.First.{None, first-hit, first-skip, first-append, first-left, none-listFrom}
 use Rattle.standard.proofs.Bits.{weight-lt, field-bit}
 use Rattle.standard.proofs.Constellation.{sizeOf-le, label-below}
+use Rattle.theorems.specs.Examples.{Fewer}
 
 -- a mask that lacks a Ucode has fewer than all
 lacks : (m : ℕ → Bool) (n u : ℕ) → u < n → m u ≡ false → sizeOf m n < n
@@ -62,25 +63,26 @@ and-false : (b : Bool) → b && false ≡ false
 and-false true = refl
 and-false false = refl
 
-module _ (r : Record) (i u : ℕ) (h : i < 6) (k : u < 128) (e : member r i u ≡ false) (d : r .drn ≡ 28)
-    (index : indexTooLarge r ≡ false) (full : (k : ℕ) → k < 6 → intervalEmpty r k ≡ false) where
+module _ (r : Record) (i u : ℕ) (fewer : Fewer r i u) where
+  too-small : productTooSmall r ≡ true
+  unfolding productTooSmall sizes
+  too-small =
+      ap (λ (x : ℕ). within 1 28 x && ltb (product (sizes r)) (2 ^ (x + 14))) (fewer .rate)
+      ∙ lt-ltb (product (sizes r)) (2 ^ 42)
+      (product-lt (size r) (λ k. sizeOf-le (member r k) 128) 0 6 i (omega arith) (omega arith)
+      (lacks (member r i) 128 u (fewer .ucode) (fewer .lacks)))
+
   rate : drnTooLarge r ≡ false
   unfolding drnTooLarge
-  rate = rw d
+  rate = rw (fewer .rate)
 
   granted : grantedBelowFullRate r ≡ false
   unfolding grantedBelowFullRate
-  granted = rw d (and-false (r .granted))
+  granted = rw (fewer .rate) (and-false (r .granted))
 
   none : None (emptyTests r)
   unfolding emptyTests emptyTest
-  none = none-listFrom (emptyTest r) 0 6 (λ k l. full (0 + k) (omega arith))
-
-  too-small : productTooSmall r ≡ true
-  unfolding productTooSmall sizes
-  too-small = ap (λ (x : ℕ). within 1 28 x && ltb (product (sizes r)) (2 ^ (x + 14))) d
-      ∙ lt-ltb (product (sizes r)) (2 ^ 42)
-      (product-lt (size r) (λ k. sizeOf-le (member r k) 128) 0 6 i (omega arith) (omega arith) (lacks (member r i) 128 u k e))
+  none = none-listFrom (emptyTest r) 0 6 (λ k l. fewer .masks (0 + k) (omega arith))
 
   abbrev stage : List Test
   stage = emptyTests r ++ (test 11 (productTooSmall r) ∷ [])
@@ -91,7 +93,9 @@ module _ (r : Record) (i u : ℕ) (h : i < 6) (k : u < 128) (e : member r i u �
   pub one-fewer : first (recordTests r) ≡ bare 11
   unfolding recordTests rateTests
   one-fewer =
-      sym (first-skip _ _ index (first-skip _ _ rate (first-skip _ _ granted (sym (first-left stage _ (rw told (lit< tt)) ∙ told)))))
+      sym
+      (first-skip _ _ (fewer .indices)
+      (first-skip _ _ rate (first-skip _ _ granted (sym (first-left stage _ (rw told (lit< tt)) ∙ told)))))
 
 -- ---- an instance for each interval i and Ucode u: i has mask 1, all but u, and the others have mask 0, all
 
@@ -149,5 +153,12 @@ module _ (i u : ℕ) where
 
   pub each-fewer : i < 6 → u < 128 → first (recordTests (lacking i u)) ≡ bare 11
   each-fewer h k =
-      one-fewer (lacking i u) i u h k
-      (member-at i u h k ∙ ap (λ (b : Bool). inside u (weight b) u) (eq-eqb i i refl) ∙ ap not (eq-eqb u u refl)) refl index-fits not-empty
+      one-fewer (lacking i u) i u
+      (record {
+        rate = refl;
+        interval = h;
+        ucode = k;
+        lacks = member-at i u h k ∙ ap (λ (b : Bool). inside u (weight b) u) (eq-eqb i i refl) ∙ ap not (eq-eqb u u refl);
+        indices = index-fits;
+        masks = not-empty;
+      })

@@ -1,5 +1,5 @@
 -- The reader ignores reserved bits, fill and padding. Assumes nothing.
-use mathlib.Core.Path.{_≡_, refl, ap, ap₂, _∙_}
+use mathlib.Core.Path.{_≡_, refl, sym, ap, ap₂, _∙_}
 use Prim.Native.Nat.{ℕ, zero, suc, _+_, _*_, _/_, _%_, _≤_, _<_}
 use mathlib.Core.Bool.{Bool, true, false, cond, not, _&&_, _||_}
 use mathlib.Core.List.{_∷_}
@@ -13,14 +13,14 @@ use Rattle.standard.specs.Bits.{bitAt, field}
 use Rattle.standard.specs.Record.{topIndex, noRecord}
 use Rattle.standard.specs.Cp.{gamma, runPlace, indexPlace, indexIn, maskBitIn, halfIn, recordIn, crcMatches, startBitSet, within, reserved}
 use Rattle.standard.specs.Cp.{ignored}
-use Rattle.standard.specs.Refusals.{countExceedsBytes, countTooSmall, syncBroken, indexTooLarge, lengthWrong, fixedBitWrong, rateTests}
+use Rattle.standard.specs.Refusals.{countTooSmall, syncBroken, indexTooLarge, lengthWrong, fixedBitWrong, rateTests}
 use Rattle.standard.specs.Refusals.{readTests}
 use Rattle.standard.specs.Calls.{accepted, ReadCall, readRefusal, readRecord}
 use Rattle.standard.specs.declared.Record.{Record}
 use Rattle.standard.proofs.Lists.{listFrom-ext, every, every-at, and-left, and-right, T→true, largest-ext}
 use Rattle.standard.proofs.Bits.{field-ext}
 use Rattle.standard.proofs.Crc.{crcBelow-ext}
-use Rattle.theorems.specs.Ignored.{topRead, SameBit, SameButIgnored, ReaderIgnores}
+use Rattle.theorems.specs.Ignored.{topRead, SameBit, SameButFill, SameButIgnored, SameCount, SameMatch, SameRead, ReaderIgnores}
 
 any-ext : (f f′ : ℕ → Bool) (i n : ℕ) → ((k : ℕ) → i ≤ k → k < i + n → f k ≡ f′ k) → any f i n ≡ any f′ i n
 unfolding any
@@ -117,15 +117,6 @@ module _ (f f′ : ℕ → Bool) where
         go i b (yes l) = high (17 * i) (omega arith) (omega arith)
         go i b (no l) = low (17 * i) (every-at (λ i. plain (17 * i)) 9 starts-plain i (omega arith))
 
-  -- bits that agree up to the CRC's last
-  module _ (same : (n : ℕ) → n < 289 + gamma g → f n ≡ f′ n) where
-    crc-same : crcMatches f g ≡ crcMatches f′ (topIndex (recordIn f′))
-    unfolding crcMatches
-    crc-same =
-        ap₂ eqb (crcBelow-ext f f′ (272 + gamma g) (λ n h. same n (omega arith)))
-        (field-ext f f′ (273 + gamma g) (273 + gamma g) 16 (λ j h. same (273 + gamma g + j) (omega arith)))
-        ∙ ap (λ (r : Record). crcMatches f′ (topIndex r)) (record-same (λ n h k. same n (omega arith)))
-
 module _ (c d : ReadCall) where
   abbrev fᶜ : ℕ → Bool
   fᶜ = bitAt (c .bytes)
@@ -133,53 +124,63 @@ module _ (c d : ReadCall) where
   abbrev fᵈ : ℕ → Bool
   fᵈ = bitAt (d .bytes)
 
-  seen : SameButIgnored c d → (n : ℕ) → n < 273 + gamma (topRead c) → reserved n ≡ false → SameBit c d n
-  unfolding ignored
-  seen same n h e =
-      let a : leb (289 + gamma (topRead c)) n ≡ false = lt-leb (289 + gamma (topRead c)) n (omega arith) in
-      let b : leb (273 + gamma (topRead c)) n ≡ false = lt-leb (273 + gamma (topRead c)) n h in
-      same n (ap₂ _||_ (ap₂ _||_ e a) (ap (λ (x : Bool). x && leb n (288 + gamma (topRead c))) b))
+  -- every bit below the CRC that is not reserved is the same
+  abbrev Same : Type 0
+  Same = (n : ℕ) → n < 273 + gamma (topRead c) → reserved n ≡ false → SameBit c d n
 
-  module _ (count : c .bitCount ≡ d .bitCount)
-      (one : countExceedsBytes (c .bytes) (c .bitCount) ≡ countExceedsBytes (d .bytes) (d .bitCount))
-      (match : crcMatches fᶜ (topRead c) ≡ crcMatches fᵈ (topRead d))
-      (same : (n : ℕ) → n < 273 + gamma (topRead c) → reserved n ≡ false → SameBit c d n) where
+  module _ (count : SameCount c d) (match : SameMatch c d) (same : Same) where
     tests-same : readTests (c .bytes) (c .bitCount) ≡ readTests (d .bytes) (d .bitCount)
     unfolding readTests
     tests-same =
         let r = record-same fᶜ fᵈ same in
-        let three = sync-same fᶜ fᵈ same in
-        let six = starts-same fᶜ fᵈ same in
-        let eight = fixed-same fᶜ fᵈ same in
+        let sync = sync-same fᶜ fᵈ same in
+        let starts = starts-same fᶜ fᵈ same in
+        let fixed = fixed-same fᶜ fᵈ same in
         λ i.
-        test 1 (one i) ∷
-        test 2 (countTooSmall (count i)) ∷
-        test 3 (three i) ∷
+        test 1 (count .1 i) ∷
+        test 2 (countTooSmall (count .0 i)) ∷
+        test 3 (sync i) ∷
         test 4 (indexTooLarge (r i)) ∷
-        test 5 (lengthWrong (count i) (topIndex (r i))) ∷
-        test 6 (six i) ∷
+        test 5 (lengthWrong (count .0 i) (topIndex (r i))) ∷
+        test 6 (starts i) ∷
         test 7 (not (match i)) ∷
-        test 8 (eight i) ∷
+        test 8 (fixed i) ∷
         rateTests (r i)
 
     refusal-same : readRefusal c ≡ readRefusal d
     unfolding readRefusal
     refusal-same = ap first tests-same
 
-    read-same : (readRefusal c ≡ readRefusal d) × (readRecord c ≡ readRecord d)
+    read-same : SameRead c d
     unfolding readRecord
-    read-same =
-        let r = record-same fᶜ fᵈ same in
-        (refusal-same, λ i. cond (accepted (refusal-same i)) (r i) noRecord)
+    read-same = let r = record-same fᶜ fᵈ same in (refusal-same, λ i. cond (accepted (refusal-same i)) (r i) noRecord)
 
-  both-read : SameButIgnored c d → accepted (readRefusal c) ≡ true → accepted (readRefusal d) ≡ true → readRecord c ≡ readRecord d
-  unfolding readRecord
-  both-read same a b = rw (a, b) (record-same fᶜ fᵈ (seen same))
+  but-fill : SameButFill c d → Same
+  but-fill same n h e = same n (omega arith)
+
+  but-ignored : SameButIgnored c d → Same
+  unfolding ignored
+  but-ignored same n h e =
+      same n
+      (ap₂ _||_ (ap₂ _||_ e (lt-leb _ n (omega arith)))
+      (ap (λ (x : Bool). x && leb n (288 + gamma (topRead c))) (lt-leb _ n (omega arith))))
+
+  crc-same : SameButFill c d → SameMatch c d
+  unfolding crcMatches
+  crc-same same =
+      let g = topRead c in
+      ap₂ eqb (crcBelow-ext fᶜ fᵈ (272 + gamma g) (λ n h. same n (omega arith)))
+      (field-ext fᶜ fᵈ (273 + gamma g) (273 + gamma g) 16 (λ j h. same (273 + gamma g + j) (omega arith)))
+      ∙ ap (λ (r : Record). crcMatches fᵈ (topIndex r)) (record-same fᶜ fᵈ (but-fill same))
+
+read-is : (c : ReadCall) → accepted (readRefusal c) ≡ true → readRecord c ≡ recordIn (bitAt (c .bytes))
+unfolding readRecord
+read-is c ok = rw ok
 
 pub reader-ignores : ReaderIgnores
 reader-ignores =
     record {
-      fill = λ c d n same. read-same c d (n .0) (n .1) (crc-same _ _ same) (λ k h e. same k (omega arith));
-      all = λ c d n match same. read-same c d (n .0) (n .1) match (seen c d same);
-      oneRecord = both-read;
+      fill = λ c d count same. read-same c d count (crc-same c d same) (but-fill c d same);
+      all = λ c d count match same. read-same c d count match (but-ignored c d same);
+      oneRecord = λ c d same a b. read-is c a ∙ record-same _ _ (but-ignored c d same) ∙ sym (read-is d b);
     }

@@ -27,7 +27,7 @@ use Rattle.standard.proofs.Bits.{odd-weight, field-bit, bytesOf-ext, bytes-back
 use Rattle.standard.proofs.Crc.{crcBelow-ext}
 use Rattle.standard.proofs.Cp.{covered, cp-body, cp-head, cp-mask, cp-crc, cp-zero}
 use Rattle.standard.proofs.Refusals.{top-lt, zero-half, read-numbered, applied}
-use Rattle.theorems.specs.RoundTrip.{ReadThenWrite}
+use Rattle.theorems.specs.RoundTrip.{IgnoredZero, ReadThenWrite}
 
 or-true : (a b : Bool) → T (a || b) → (a ≡ true) ⊎ (T b)
 or-true true b t = inl refl
@@ -194,7 +194,7 @@ module _ (s : List ℕ) (n : ℕ) (ok : first (readTests s n) .number ≡ 0) whe
   unfolding headFields
   sorted = tt
 
-  module _ (zeros : (k : ℕ) → k < 8 * cpByteCount g → ignored g k ≡ true → f k ≡ false) where
+  module _ (zeros : IgnoredZero s g) where
     head-zero : (k : ℕ) → k < 137 → covered (headFields r) k ≡ false → f k ≡ false
     unfolding ignored
     head-zero k h e = in-field (or-true _ _ (every-at sort 137 sorted k h))
@@ -277,8 +277,7 @@ module _ (s : List ℕ) (n : ℕ) (ok : first (readTests s n) .number ≡ 0) whe
 -- what is to be shown of the record x that was read
 abbrev Back : List ℕ → ℕ → Record → Type 0
 Back s n x =
-    ((k : ℕ) → k < 8 * cpByteCount (topIndex x) → ignored (topIndex x) k ≡ true → bitAt s k ≡ false)
-    → (buffer : List ℕ) → cpByteCount (topIndex x) ≤ length buffer
+    IgnoredZero s (topIndex x) → (buffer : List ℕ) → cpByteCount (topIndex x) ≤ length buffer
     → (accepted (writeRefusal (record { cp = x; bytes = buffer })) ≡ true)
     × (writeBytes (record { cp = x; bytes = buffer }) ≡ over (take (cpByteCount (topIndex x)) s) buffer)
     × (writeBitCount (record { cp = x; bytes = buffer }) ≡ n)

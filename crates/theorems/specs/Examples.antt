@@ -134,12 +134,20 @@ table =
     && eqb (readWith 426) 0 && eqb (readWith 425) 5 && eqb (readWith 427) 5) ∷
     []
 
+-- a record at K = 42 whose interval i lacks Ucode u; no index is above 5 and no mask is empty
+pub record Fewer (r : Record) (i u : ℕ) : Type 0 where
+  pub rate : r .drn ≡ 28
+  pub interval : i < 6
+  pub ucode : u < 128
+  pub lacks : member r i u ≡ false
+  pub indices : indexTooLarge r ≡ false
+  pub masks : (k : ℕ) → k < 6 → intervalEmpty r k ≡ false
+
 pub record ExamplesHold : Type 0 where
   pub rows : all table ≡ true
   -- B10: 'mark 7 never occurs', whatever the octets
   pub neverSeven : (l : Law) (os : List ℕ) → mark full l os ≡ 7 → ⊥
-  -- B10: 'one Ucode fewer gets 11', whichever Ucode u and interval i: at K = 42, with no index above 5 and no mask empty (which gets 25)
-  pub oneFewer : (r : Record) (i u : ℕ) → i < 6 → u < 128 → member r i u ≡ false → r .drn ≡ 28 → indexTooLarge r ≡ false
-      → ((k : ℕ) → k < 6 → intervalEmpty r k ≡ false) → first (recordTests r) ≡ bare 11
+  -- B10: 'one Ucode fewer gets 11', whichever Ucode and interval
+  pub oneFewer : (r : Record) (i u : ℕ) → Fewer r i u → first (recordTests r) ≡ bare 11
   -- A.8: 25 'with the lowest such interval'
   pub lowestEmpty : first (recordTests emptyTwice) ≡ valued 25 2

@@ -17,6 +17,10 @@ topRead c = topIndex (recordIn (bitAt (c .bytes)))
 abbrev pub SameBit : ReadCall → ReadCall → ℕ → Type 0
 SameBit c d n = bitAt (c .bytes) n ≡ bitAt (d .bytes) n
 
+-- every bit below 289 + γ is the same in both: fill and padding follow it
+abbrev pub SameButFill : ReadCall → ReadCall → Type 0
+SameButFill c d = (n : ℕ) → n < 289 + gamma (topRead c) → SameBit c d n
+
 -- every bit that is neither ignored nor in the CRC is the same in both
 abbrev pub SameButIgnored : ReadCall → ReadCall → Type 0
 SameButIgnored c d =
@@ -37,9 +41,7 @@ abbrev pub SameRead : ReadCall → ReadCall → Type 0
 SameRead c d = (readRefusal c ≡ readRefusal d) × (readRecord c ≡ readRecord d)
 
 pub record ReaderIgnores : Type 0 where
-  -- fill and padding, which are the bits from 289 + γ on
-  pub fill : (c d : ReadCall) → SameCount c d → ((n : ℕ) → n < 289 + gamma (topRead c) → SameBit c d n) → SameRead c d
-  -- all ignored bits
+  pub fill : (c d : ReadCall) → SameCount c d → SameButFill c d → SameRead c d
   pub all : (c d : ReadCall) → SameCount c d → SameMatch c d → SameButIgnored c d → SameRead c d
   -- so two calls that are accepted give one record
   pub oneRecord : (c d : ReadCall) → SameButIgnored c d → accepted (readRefusal c) ≡ true → accepted (readRefusal d) ≡ true

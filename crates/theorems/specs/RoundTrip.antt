@@ -33,10 +33,13 @@ writeBack c buffer = record { cp = readRecord c; bytes = buffer }
 abbrev pub readTop : ReadCall → ℕ
 readTop c = topIndex (readRecord c)
 
+-- 'all ignored bits were zero', in the bytes of a CP whose largest index is g
+abbrev pub IgnoredZero : List ℕ → ℕ → Type 0
+IgnoredZero s g = (n : ℕ) → n < 8 * cpByteCount g → ignored g n ≡ true → bitAt s n ≡ false
+
 abbrev pub ReadThenWrite : Type 0
 ReadThenWrite =
-    (c : ReadCall) → ((i : ℕ) → getD (c .bytes) i 0 < 256) → accepted (readRefusal c) ≡ true
-    → ((n : ℕ) → n < 8 * cpByteCount (readTop c) → ignored (readTop c) n ≡ true → bitAt (c .bytes) n ≡ false)
+    (c : ReadCall) → ((i : ℕ) → getD (c .bytes) i 0 < 256) → accepted (readRefusal c) ≡ true → IgnoredZero (c .bytes) (readTop c)
     → (buffer : List ℕ) → cpByteCount (readTop c) ≤ length buffer
     → (accepted (writeRefusal (writeBack c buffer)) ≡ true)
     × (writeBytes (writeBack c buffer) ≡ over (take (cpByteCount (readTop c)) (c .bytes)) buffer)
