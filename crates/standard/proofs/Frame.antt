@@ -1,5 +1,5 @@
 -- Laws of a data frame, there and back, and of N frames. Assumes nothing.
-use mathlib.Core.Path.{_≡_, sym, ap, _∙_}
+use mathlib.Core.Path.{_≡_, refl, sym, ap, _∙_}
 use Prim.Native.Nat.{ℕ, _+_, _*_, _^_, _≤_, _<_}
 use mathlib.Core.Bool.{Bool, true, false, cond, not}
 use mathlib.Core.List.{List, [], _∷_, _++_, map-append}
@@ -16,7 +16,7 @@ use Rattle.standard.specs.Record.{K, D}
 use Rattle.standard.specs.Scrambler.{pushAll, descramble}
 use Rattle.standard.specs.Constellation.{member, size, label, point, sizes}
 use Rattle.standard.specs.Modulus.{product, number}
-use Rattle.standard.specs.Signs.{signBits}
+use Rattle.standard.specs.Signs.{signsOf, signBits}
 use Rattle.standard.specs.Octets.{octet, signOf, ucodeOf}
 use Rattle.standard.specs.Frame.{lineBits, frameSigns, frameLabels, frameOctets, sendFrame, sendNext, signAt, ucodeAt, receivedNumber}
 use Rattle.standard.specs.Frame.{outsideTest, outsideTests, markTests, mark, good, heardBits, receiveFrame, receiveNext, sendFrames}
@@ -31,7 +31,7 @@ use Rattle.standard.proofs.Bits.{numberOf-lt, bits-back, length-bitsOf}
 use Rattle.standard.proofs.Scrambler.{length-scramble, length-descramble}
 use Rattle.standard.proofs.Constellation.{Names, names}
 use Rattle.standard.proofs.Modulus.{Within, within-at, number-labels, length-labels, labels-within}
-use Rattle.standard.proofs.Signs.{taken, taken-append, signs-taken, length-signsOf, length-signBits}
+use Rattle.standard.proofs.Signs.{taken, taken-append, signs-taken, signs-append, bits-append, length-signsOf, length-signBits}
 use Rattle.standard.proofs.Octets.{sign-back, ucode-back}
 
 -- the record can carry K bits
@@ -49,6 +49,23 @@ size-at r i h = getD-list (size r) 0 6 i h
 pub length-frameOctets : (r : Record) (l : Law) (g : Bool) (ss : List Bool) → length (frameOctets r l g ss) ≡ 6
 unfolding frameOctets
 length-frameOctets r l g ss = length-listFrom (λ i. octet l (nth (frameSigns g ss) i) (point r i (getD (frameLabels r ss) i 0))) 0 6
+
+-- ---- signs: 'across frames too'
+
+-- the signs of a frame's bits, and of those that follow them, are the signs of all
+pub signs-across : (st : LineState) (ds ss : List Bool) → 6 ≤ length ds
+    → frameSigns (st .sign) (lineBits st ds) ++ signsOf (sendNext st ds .sign) ss ≡ signsOf (st .sign) (take 6 (lineBits st ds) ++ ss)
+unfolding frameSigns sendNext lineBits
+signs-across st ds ss h =
+    sym (signs-append (st .sign) (take 6 (lineBits st ds)) ss 5
+    (length-take-le 6 (lineBits st ds) (rw (length-scramble (st .history) ds) h)))
+
+-- and so back: those of a frame's octets, and of the signs that follow them
+pub sign-bits-across : (r : Record) (l : Law) (st : LineState) (os : List ℕ) (ts : List Bool)
+    → signBits (st .sign) (listFrom (signAt os) 0 6) ++ signBits (receiveNext r l st os .sign) ts
+    ≡ signBits (st .sign) (listFrom (signAt os) 0 6 ++ ts)
+unfolding receiveNext listFrom nth
+sign-bits-across r l st os ts = sym (bits-append (st .sign) (listFrom (signAt os) 0 6) ts 5 refl)
 
 -- ---- marks
 

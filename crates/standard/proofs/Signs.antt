@@ -1,11 +1,12 @@
 -- Laws of the differential coding of signs. Assumes nothing.
-use mathlib.Core.Path.{_≡_, refl, ap, ap₂}
-use Prim.Native.Nat.{zero, suc, _<_}
+use mathlib.Core.Path.{_≡_, refl, sym, ap, ap₂}
+use Prim.Native.Nat.{ℕ, zero, suc, _<_}
 use mathlib.Core.Bool.{Bool}
 use mathlib.Core.List.{List, [], _∷_, _++_}
-use native.Mathlib.Nat.{not-suc-le-zero}
+use native.Mathlib.Nat.{not-suc-le-zero, suc-ne-zero}
+use native.Mathlib.Omega.{arith}
 use lib.ListN.{length}
-use Rattle.standard.specs.Bits.{_⊕_}
+use Rattle.standard.specs.Bits.{_⊕_, nth}
 use Rattle.standard.specs.Signs.{signsOf, signBits}
 use Rattle.standard.proofs.Bits.{xor-cancel}
 
@@ -23,6 +24,24 @@ pub signs-back : (g : Bool) (ss : List Bool) → signBits g (signsOf g ss) ≡ s
 unfolding signsOf signBits
 signs-back g [] = refl
 signs-back g (s ∷ ss) = ap₂ _∷_ (xor-cancel s g) (signs-back (s ⊕ g) ss)
+
+-- the signs of bits that follow others go on from the last of their signs, there and back
+pub signs-append : (g : Bool) (a b : List Bool) (n : ℕ) → length a ≡ suc n
+    → signsOf g (a ++ b) ≡ signsOf g a ++ signsOf (nth (signsOf g a) n) b
+unfolding signsOf nth
+signs-append g [] b n e = absurd (suc-ne-zero n (sym e))
+signs-append g (s ∷ []) b zero e = refl
+signs-append g (s ∷ []) b (suc n) e = absurd (omega arith)
+signs-append g (s ∷ r ∷ a) b zero e = absurd (omega arith)
+signs-append g (s ∷ r ∷ a) b (suc n) e = ap (λ (x : List Bool). (s ⊕ g) ∷ x) (signs-append (s ⊕ g) (r ∷ a) b n (omega arith))
+
+pub bits-append : (g : Bool) (a b : List Bool) (n : ℕ) → length a ≡ suc n → signBits g (a ++ b) ≡ signBits g a ++ signBits (nth a n) b
+unfolding signBits nth
+bits-append g [] b n e = absurd (suc-ne-zero n (sym e))
+bits-append g (t ∷ []) b zero e = refl
+bits-append g (t ∷ []) b (suc n) e = absurd (omega arith)
+bits-append g (t ∷ r ∷ a) b zero e = absurd (omega arith)
+bits-append g (t ∷ r ∷ a) b (suc n) e = ap (λ (x : List Bool). (t ⊕ g) ∷ x) (bits-append t (r ∷ a) b n (omega arith))
 
 -- a receiver whose last sign was g′ where the sender's was g may take the first bit wrong, and no other
 abbrev pub taken : Bool → Bool → List Bool → List Bool
