@@ -27,11 +27,11 @@ unfolding any
 any-ext f f′ i zero h = refl
 any-ext f f′ i (suc n) h = ap₂ _||_ (any-ext f f′ i n (λ k a b. h k a (omega arith))) (h (i + n) (omega arith) (omega arith))
 
-past : (a b n : ℕ) → a ≤ n → b < n → within a b n ≡ false
+pub past : (a b n : ℕ) → a ≤ n → b < n → within a b n ≡ false
 past a b n h k = ap₂ _&&_ (le-leb a n h) (lt-leb n b k)
 
 -- from the masks on no bit is reserved
-none-reserved : (n : ℕ) → 137 ≤ n → reserved n ≡ false
+pub none-reserved : (n : ℕ) → 137 ≤ n → reserved n ≡ false
 none-reserved n h =
     rw (
       past 25 29 n (omega arith) (omega arith),

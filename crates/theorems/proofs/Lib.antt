@@ -4,9 +4,10 @@ pub mod OverCalls
 pub mod Runs
 pub mod Fewer
 pub mod Examples
+pub mod Ignored
 pub mod WriteRead
 pub mod ReadWrite
+pub mod Zeros
 pub mod Instance
 pub mod Empty
 pub mod Lengths
-pub mod Ignored

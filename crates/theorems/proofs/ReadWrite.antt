@@ -33,6 +33,10 @@ or-true : (a b : Bool) → T (a || b) → (a ≡ true) ⊎ (T b)
 or-true true b t = inl refl
 or-true false b t = inr t
 
+pub or-right : (a b : Bool) → b ≡ true → a || b ≡ true
+or-right true b e = refl
+or-right false b e = e
+
 -- fields that hold what f has in their places, where f has zeros elsewhere
 module _ (f : ℕ → Bool) where
   abbrev Agrees : List Field → Type 0
@@ -87,7 +91,7 @@ module _ (s : List ℕ) (n : ℕ) (ok : first (readTests s n) .number ≡ 0) whe
   unfolding readTests lengthWrong
   count-is = eqb-true n (cpLength g) (not-false _ (not-read 4 (lit< tt)))
 
-  long : cpByteCount g ≤ length s
+  pub long : cpByteCount g ≤ length s
   unfolding readTests countExceedsBytes
   long = omega (arith, ltb-false (8 * length s) n (not-read 0 (lit< tt)), count-is)
 
@@ -247,11 +251,9 @@ module _ (s : List ℕ) (n : ℕ) (ok : first (readTests s n) .number ≡ 0) whe
       where
         go : Dec (k ≤ 272 + gamma g) → Dec (289 + gamma g ≤ k) → cpBit r k ≡ f k
         go (yes l) d = body k l
-        go (no l) (yes d) = cp-zero r k (omega arith) (inr d) ∙ sym (zeros k h (or-right (reserved k) _ (le-leb (289 + gamma g) k d)))
-          where
-            or-right : (a b : Bool) → b ≡ true → a || b ≡ true
-            or-right true b e = refl
-            or-right false b e = e
+        go (no l) (yes d) =
+            cp-zero r k (omega arith) (inr d)
+            ∙ sym (zeros k (omega arith) (or-right (reserved k) _ (le-leb (289 + gamma g) k d)))
         go (no l) (no d) =
             let e : 273 + gamma g + (k - (273 + gamma g)) ≡ k = omega arith in
             ap (cpBit r) (sym e) ∙ cp-crc r (k - (273 + gamma g)) (omega arith)
@@ -264,7 +266,7 @@ module _ (s : List ℕ) (n : ℕ) (ok : first (readTests s n) .number ≡ 0) whe
     unfolding cpBytes
     same-bytes b = bytesOf-ext (cpByteCount g) (cpBit r) f bits ∙ bytes-back (cpByteCount g) s b long
 
-  write-none : (short : Bool) → short ≡ false → first (writeTests r short) ≡ bare 0
+  pub write-none : (short : Bool) → short ≡ false → first (writeTests r short) ≡ bare 0
   unfolding writeTests recordTests readTests
   write-none short e =
       let above = test 12 (maskAboveIndices r) ∷ [] in

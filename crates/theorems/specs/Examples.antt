@@ -134,7 +134,7 @@ table =
     && eqb (readWith 426) 0 && eqb (readWith 425) 5 && eqb (readWith 427) 5) ∷
     []
 
--- a record at K = 42 whose interval i lacks Ucode u; no index is above 5 and no mask is empty
+-- a record at K = 42 whose interval i lacks Ucode u; no index is above 5 and no interval is empty
 pub record Fewer (r : Record) (i u : ℕ) : Type 0 where
   pub rate : r .drn ≡ 28
   pub interval : i < 6

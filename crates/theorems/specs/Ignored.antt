@@ -41,7 +41,9 @@ abbrev pub SameRead : ReadCall → ReadCall → Type 0
 SameRead c d = (readRefusal c ≡ readRefusal d) × (readRecord c ≡ readRecord d)
 
 pub record ReaderIgnores : Type 0 where
+  -- fill and padding
   pub fill : (c d : ReadCall) → SameCount c d → SameButFill c d → SameRead c d
+  -- all ignored bits
   pub all : (c d : ReadCall) → SameCount c d → SameMatch c d → SameButIgnored c d → SameRead c d
   -- so two calls that are accepted give one record
   pub oneRecord : (c d : ReadCall) → SameButIgnored c d → accepted (readRefusal c) ≡ true → accepted (readRefusal d) ≡ true

@@ -2,12 +2,13 @@
 -- bits were zero. The reader returns the record, the writer the bit count.' Assumes nothing.
 use mathlib.Core.Path.{_≡_}
 use Prim.Native.Nat.{ℕ, _*_, _^_, _≤_, _<_}
-use mathlib.Core.Bool.{true, false}
+use mathlib.Core.Bool.{Bool, true, false, _||_}
 use mathlib.Core.List.{List}
+use lib.Dec.{eqb}
 use lib.ListN.{length, getD, take}
 use Rattle.standard.specs.Bits.{bitAt}
 use Rattle.standard.specs.Record.{topIndex, halfOf}
-use Rattle.standard.specs.Cp.{cpByteCount, ignored}
+use Rattle.standard.specs.Cp.{cpByteCount, within, ignored}
 use Rattle.standard.specs.Calls.{accepted, over, ReadCall, readRefusal, readRecord, WriteCall, writeRefusal, writeBitCount, writeBytes}
 use Rattle.standard.specs.declared.Record.{Record}
 
@@ -44,3 +45,22 @@ ReadThenWrite =
     → (accepted (writeRefusal (writeBack c buffer)) ≡ true)
     × (writeBytes (writeBack c buffer) ≡ over (take (cpByteCount (readTop c)) (c .bytes)) buffer)
     × (writeBitCount (writeBack c buffer) ≡ c .bitCount)
+
+-- 'exactly where': and only where they were
+abbrev pub OnlyWhereZero : Type 0
+OnlyWhereZero =
+    (c : ReadCall) → accepted (readRefusal c) ≡ true → (buffer : List ℕ) → cpByteCount (readTop c) ≤ length buffer
+    → writeBytes (writeBack c buffer) ≡ over (take (cpByteCount (readTop c)) (c .bytes)) buffer → IgnoredZero (c .bytes) (readTop c)
+
+-- bits '30:32, 128'
+abbrev pub cleared : ℕ → Bool
+cleared n = within 30 32 n || eqb n 128
+
+-- 'The writer puts 1 in bit 19 and 0 in 30:32, 128 and all reserved, fill and last-byte padding bits.'
+pub record Puts (s : List ℕ) (g : ℕ) : Type 0 where
+  pub one : bitAt s 19 ≡ true
+  pub zeros : (n : ℕ) → cleared n ≡ true → bitAt s n ≡ false
+  pub ignoredZero : IgnoredZero s g
+
+abbrev pub WriterPuts : Type 0
+WriterPuts = (c : WriteCall) → accepted (writeRefusal c) ≡ true → Puts (writeBytes c) (topIndex (c .cp))
