@@ -1,4 +1,6 @@
 // Text for programs: lines of standard input, bytes as lowercase hexadecimal digits, the magnitude of a signed number.
+pub mod calls;
+
 ghost use mathlib.Core.Path.{_≡_};
 ghost use mathlib.Core.Bool.{cond};
 ghost use Prim.Native.Nat.{_+_, _*_, _/_, _%_, _^_, _<_, _≤_};
@@ -134,7 +136,7 @@ pub fn read_bytes(text: &mut [u8], bytes: &mut [u8]) -> Line
 {
     let line = read_line(text);
     let n = line.length;
-    let count = from_hex(&text[..n], bytes);
+    let count = from_hex(&text[0..n], bytes);
     Line {
         length: count,
         found: line.found,
@@ -148,7 +150,7 @@ pub fn write_bytes(bytes: &[u8], text: &mut [u8]) -> bool
         (now (text .entry)) ⌝ }
 {
     let end = to_hex(bytes, text);
-    if io::write_all(1, &text[..end]) {
+    if io::write_all(1, &text[0..end]) {
         return io::write_all(1, &[b'\n']);
     }
     false

@@ -1,6 +1,5 @@
 // Prints V.90 Table 1, a line for each law, sign and Ucode: LAW SIGN UCODE TABLE OCTET VALUE LINEAR, with the octet as printed and by
-// arithmetic,
-// the linear value as printed, and the signed sample by arithmetic.
+// arithmetic, the linear value as printed, and the signed sample by arithmetic.
 use io::print_decimal;
 use io::print_hex;
 use io::write_all;

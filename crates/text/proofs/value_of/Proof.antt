@@ -20,12 +20,9 @@ returns-2 : tie.Need-returns-2
 unfolding digitValue
 returns-2 c = (rw (lt-ltb _ _ (c .if2 .taken)), omega arith)
 
-sub-result : tie.Need-sub-result
-sub-result c = search needs
-
 returns-3 : tie.Need-returns-3
 unfolding digitValue
 returns-3 c = (rw (le-ltb _ _ (c .if2 .left)), omega arith)
 
 pub value-of-spec : {M : Type 1} → statement M
-value-of-spec = tie.close (tie.spec returns returns-2 sub-result returns-3)
+value-of-spec = tie.close (tie.spec returns returns-2 (λ c. search needs) returns-3)

@@ -11,25 +11,7 @@ Inv-loop law name sign ucode₀ ucode = ucode ≤ 128
 abbrev μ-loop : tie.MeasureT-loop
 μ-loop law name sign ucode₀ ucode = 128 - ucode
 
-loop-holds : tie.Need-loop-holds Inv-loop μ-loop
-loop-holds c = omega arith
-
-print-row-requires : tie.Need-print-row-requires Inv-loop μ-loop
-print-row-requires c κs = omega arith
-
-add-ucode : tie.Need-add-ucode Inv-loop μ-loop
-add-ucode c = omega arith
-
-loop-less : tie.Need-loop-less Inv-loop μ-loop
-loop-less c = omega arith
-
-loop-again : tie.Need-loop-again Inv-loop μ-loop
-loop-again c = omega arith
-
-returns : tie.Need-returns Inv-loop μ-loop
-returns c = search needs
-
 pub print-column-spec : {M : Type 1} → statement M
 print-column-spec =
-    tie.close
-    (tie.spec Inv-loop μ-loop loop-holds print-row-requires add-ucode loop-less loop-again returns)
+    tie.close (tie.spec Inv-loop μ-loop (λ c. omega arith) (λ c κs. omega arith) (λ c. omega arith) (λ c. omega arith)
+    (λ c. omega arith) (λ c. search needs))
