@@ -3,6 +3,7 @@ use crate::describe::add_record;
 use crate::stream::fresh_state;
 use crate::words::add;
 use crate::words::add_hex;
+use crate::words::add_if;
 use crate::words::write_text;
 use standard::Law;
 use standard::Record;
@@ -19,22 +20,14 @@ fn example() -> Record {
     }
 }
 
-// Adds a space where one belongs.
-fn add_gap(text: &mut [u8], at: usize, gap: bool) -> usize {
-    if gap {
-        return add(text, at, b" ");
-    }
-    at
-}
-
-// Adds bytes in hexadecimal, a space before each group of so many.
-fn add_groups(text: &mut [u8], at: usize, bytes: &[u8], group: usize) -> usize
+// Adds a name and bytes in hexadecimal, a space before each group of so many.
+fn add_groups(text: &mut [u8], at: usize, name: &[u8], bytes: &[u8], group: usize) -> usize
     requires { ⌜ 0 < group ⌝ }
 {
-    let mut end = at;
+    let mut end = add(text, at, name);
     let mut i = 0;
     while i < bytes.len() {
-        end = add_gap(text, end, i % group == 0);
+        end = add_if(text, end, i % group == 0, b" ");
         end = add_hex(text, end, bytes[i]);
         i += 1;
     }
@@ -46,8 +39,7 @@ fn add_cp(text: &mut [u8], r: Record) -> usize {
     let mut bytes = [0u8; 37];
     let written = cp::write_cp(r, &mut bytes);
     let read = cp::read_cp(&bytes, written.bit_count);
-    let at = add(text, 0, b"bytes");
-    let at = add_groups(text, at, &bytes, 37);
+    let at = add_groups(text, 0, b"bytes", &bytes, 37);
     let at = add(text, at, b"\n");
     add_record(text, at, read.record, written.bit_count)
 }
@@ -67,16 +59,10 @@ fn add_run(text: &mut [u8], at: usize, r: Record) -> usize {
         &mut bytes,
         &mut marks,
     );
-    let at = add(
-        text,
-        at,
-        b"63 one bits in 3 frames, mu-law, fresh state\noctets",
-    );
-    let at = add_groups(text, at, &octets, 6);
-    let at = add(text, at, b"\nreceived bits");
-    let at = add_groups(text, at, &bytes, 8);
-    let at = add(text, at, b"\nmarks");
-    let at = add_groups(text, at, &marks, 1);
+    let title = b"63 one bits in 3 frames, mu-law, fresh state\noctets";
+    let at = add_groups(text, at, title, &octets, 6);
+    let at = add_groups(text, at, b"\nreceived bits", &bytes, 8);
+    let at = add_groups(text, at, b"\nmarks", &marks, 1);
     add(text, at, b"\n")
 }
 

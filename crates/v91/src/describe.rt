@@ -1,7 +1,8 @@
 // A CP sequence in plain words.
 use crate::words::add;
-use crate::words::add_decimal;
+use crate::words::add_if;
 use crate::words::add_named;
+use crate::words::add_number;
 use constellation::Mask;
 use constellation::d_of;
 use constellation::k_of;
@@ -22,11 +23,11 @@ fn add_rate(text: &mut [u8], at: usize, r: Record) -> usize {
     if r.drn == 0 {
         return add(text, at, b"cleardown (drn 0)\n");
     }
-    let at = add(text, at, b"rate ");
-    let at = add_decimal(text, at, d_of(r) as u64 * 8000 / 6);
+    let d = d_of(r) as u64;
+    let at = add_number(text, at, b"rate ", d * 8000 / 6);
     let at = add_named(text, at, b" bit/s, drn ", r.drn as u64);
     let at = add_named(text, at, b"K ", k_of(r) as u64);
-    add_named(text, at, b"D ", d_of(r) as u64)
+    add_named(text, at, b"D ", d)
 }
 
 // Mask m of a record.
@@ -47,10 +48,8 @@ fn add_interval(text: &mut [u8], at: usize, r: Record, i: usize) -> usize
 {
     let index = r.index;
     let m = index[i];
-    let at = add(text, at, b"interval ");
-    let at = add_decimal(text, at, i as u64);
-    let at = add(text, at, b": mask ");
-    let at = add_decimal(text, at, m as u64);
+    let at = add_number(text, at, b"interval ", i as u64);
+    let at = add_number(text, at, b": mask ", m as u64);
     if m < 6 {
         let size = constellation::size_of(mask_at(r, m as usize));
         return add_named(text, at, b", M = ", size);
@@ -86,13 +85,11 @@ fn add_run(text: &mut [u8], at: usize, u: u8, end: u8) -> usize {
     if end <= u {
         return at;
     }
-    let at = add(text, at, b" ");
-    let at = add_decimal(text, at, u as u64);
+    let at = add_number(text, at, b" ", u as u64);
     if end - u == 1 {
         return at;
     }
-    let at = add(text, at, b"-");
-    add_decimal(text, at, end as u64 - 1)
+    add_number(text, at, b"-", end as u64 - 1)
 }
 
 // Adds the runs of Ucodes of a mask.
@@ -111,13 +108,10 @@ fn add_runs(text: &mut [u8], at: usize, m: Mask) -> usize {
 fn add_mask(text: &mut [u8], at: usize, r: Record, m: usize) -> usize
     requires { ⌜ m < 6 ⌝ }
 {
-    let at = add(text, at, b"mask ");
-    let at = add_decimal(text, at, m as u64);
+    let at = add_number(text, at, b"mask ", m as u64);
     let at = add(text, at, b": Ucodes");
     let mask = mask_at(r, m);
-    if constellation::size_of(mask) == 0 {
-        return add(text, at, b" none\n");
-    }
+    let at = add_if(text, at, constellation::size_of(mask) == 0, b" none");
     let at = add_runs(text, at, mask);
     add(text, at, b"\n")
 }
@@ -136,8 +130,7 @@ fn add_masks(text: &mut [u8], at: usize, r: Record) -> usize {
 
 // Adds the record of a CP sequence and its length.
 pub(crate) fn add_record(text: &mut [u8], at: usize, r: Record, bit_count: usize) -> usize {
-    let at = add(text, at, b"CP sequence of ");
-    let at = add_decimal(text, at, bit_count as u64);
+    let at = add_number(text, at, b"CP sequence of ", bit_count as u64);
     let at = add(text, at, b" bits\n");
     let at = add_rate(text, at, r);
     let at = add_flag(text, at, b"granted ", r.granted);

@@ -2,6 +2,7 @@
 use crate::refusals::add_refusal;
 use crate::words::complain_text;
 use standard::CpRead;
+use standard::Outcome;
 ghost use Prim.Native.Nat.{_≤_};
 ghost use lib.ListN.{length};
 
@@ -12,7 +13,7 @@ pub(crate) struct Filled {
 }
 
 // Reads into the first `room` places until they are full, the input ends or a read fails.
-pub(crate) fn fill(fd: i32, buffer: &mut [u8], room: usize) -> Filled
+fn fill(fd: i32, buffer: &mut [u8], room: usize) -> Filled
     requires { ⌜ room ≤ length (now buffer) ⌝ }
     ensures { λ f. ⌜ f .count ≤ room ⌝ }
 {
@@ -38,6 +39,18 @@ pub(crate) fn fill(fd: i32, buffer: &mut [u8], room: usize) -> Filled
         count: at,
         failed: false,
     }
+}
+
+// Reads standard input so, and says where a read fails.
+pub(crate) fn read_input(buffer: &mut [u8], room: usize) -> Filled
+    requires { ⌜ room ≤ length (now buffer) ⌝ }
+    ensures { λ f. ⌜ f .count ≤ room ⌝ }
+{
+    let got = fill(0, buffer, room);
+    if got.failed {
+        os::fail(b"v91: standard input");
+    }
+    got
 }
 
 // The bit count of a CP file: its length in bits is rounded up to whole bytes, so the length of the CP for each g is told from its bytes.
@@ -113,4 +126,13 @@ pub(crate) fn complain_refusal(code: u32) {
     let mut text = [0u8; 256];
     let at = add_refusal(&mut text, 0, code);
     complain_text(&text, at);
+}
+
+// Whether an outcome is a refusal; says it.
+pub(crate) fn refused(outcome: Outcome) -> bool {
+    let code = forms::code_of(outcome);
+    if code != 0 {
+        complain_refusal(code);
+    }
+    code != 0
 }

@@ -1,23 +1,16 @@
 // Octets as linear samples in text.
-use crate::input::fill;
+use crate::input::read_input;
 use crate::words::add;
 use crate::words::add_decimal;
+use crate::words::add_if;
 use crate::words::write_text;
 use standard::Law;
 
 // Adds a sample and a newline.
 fn add_sample(text: &mut [u8], at: usize, sample: i32) -> usize {
-    let at = add_sign(text, at, sample < 0);
+    let at = add_if(text, at, sample < 0, b"-");
     let at = add_decimal(text, at, text::magnitude(sample));
     add(text, at, b"\n")
-}
-
-// Adds the minus of a negative number.
-fn add_sign(text: &mut [u8], at: usize, negative: bool) -> usize {
-    if negative {
-        return add(text, at, b"-");
-    }
-    at
 }
 
 // Adds samples, one a line.
@@ -36,9 +29,8 @@ fn linear_some(law: Law) -> bool {
     let mut octets = [0u8; 1024];
     let mut samples = [0i32; 1024];
     let mut text = [0u8; 16384];
-    let got = fill(0, &mut octets, 1024);
+    let got = read_input(&mut octets, 1024);
     if got.failed {
-        os::fail(b"v91: standard input");
         return false;
     }
     let n = got.count;

@@ -1,9 +1,10 @@
 // Streams of any length through the sender and the receiver, by calls of 1,024 frames. That is a multiple of 8, so calls join on whole
 // bytes.
-use crate::input::complain_refusal;
-use crate::input::fill;
+use crate::input::read_input;
+use crate::input::refused;
 use crate::words::add;
 use crate::words::add_decimal;
+use crate::words::add_number;
 use crate::words::complain_text;
 use crate::words::write;
 use standard::Law;
@@ -87,18 +88,15 @@ fn send_some(r: Record, law: Law, s: Stream) -> Stream {
     let room = 128 * width;
     let mut bytes = [0u8; 6144];
     let mut octets = [0u8; 6144];
-    let got = fill(0, &mut bytes, room);
+    let got = read_input(&mut bytes, room);
     if got.failed {
-        os::fail(b"v91: standard input");
         return failed(s);
     }
     let frames = frames_in(got.count, width);
     let state = s.state;
     let done = codec::send(r, law, frames, state, &bytes, &mut octets);
     let outcome = done.outcome;
-    let code = forms::code_of(outcome);
-    if code != 0 {
-        complain_refusal(code);
+    if refused(outcome) {
         return failed(s);
     }
     let end = 6 * frames;
@@ -143,18 +141,15 @@ fn receive_some(r: Record, law: Law, s: Stream) -> Stream {
     let mut octets = [0u8; 6144];
     let mut bytes = [0u8; 6144];
     let mut marks = [0u8; 1024];
-    let got = fill(0, &mut octets, 6144);
+    let got = read_input(&mut octets, 6144);
     if got.failed {
-        os::fail(b"v91: standard input");
         return failed(s);
     }
     let frames = got.count / 6;
     let state = s.state;
     let done = codec::receive(r, law, frames, state, &octets, &mut bytes, &mut marks);
     let outcome = done.outcome;
-    let code = forms::code_of(outcome);
-    if code != 0 {
-        complain_refusal(code);
+    if refused(outcome) {
         return failed(s);
     }
     let bits = bits_of(frames, width_of(r));
@@ -197,8 +192,7 @@ fn run_all(r: Record, law: Law, sends: bool) -> Stream {
 fn say_sent(s: Stream) {
     let mut text = [0u8; 256];
     let at = add_decimal(&mut text, 0, s.frames);
-    let at = add(&mut text, at, b" frames sent; ");
-    let at = add_decimal(&mut text, at, s.left as u64);
+    let at = add_number(&mut text, at, b" frames sent; ", s.left as u64);
     let at = add(
         &mut text,
         at,
@@ -212,18 +206,15 @@ fn add_last(text: &mut [u8], at: usize, bits: usize) -> usize {
     if bits == 0 {
         return at;
     }
-    let at = add(text, at, b"; data bits in the last byte: ");
-    add_decimal(text, at, bits as u64)
+    add_number(text, at, b"; data bits in the last byte: ", bits as u64)
 }
 
 // Says how many frames were received, how many of them were marked, and what was left.
 fn say_received(s: Stream) {
     let mut text = [0u8; 256];
     let at = add_decimal(&mut text, 0, s.frames);
-    let at = add(&mut text, at, b" frames received, ");
-    let at = add_decimal(&mut text, at, s.marked);
-    let at = add(&mut text, at, b" of them marked; ");
-    let at = add_decimal(&mut text, at, s.left as u64);
+    let at = add_number(&mut text, at, b" frames received, ", s.marked);
+    let at = add_number(&mut text, at, b" of them marked; ", s.left as u64);
     let at = add(&mut text, at, b" octets make no frame");
     let at = add_last(&mut text, at, s.last);
     complain_text(&text, at);

@@ -17,6 +17,14 @@ pub(crate) fn add(text: &mut [u8], at: usize, words: &[u8]) -> usize {
     end
 }
 
+// Adds words where they are wanted.
+pub(crate) fn add_if(text: &mut [u8], at: usize, wanted: bool, words: &[u8]) -> usize {
+    if wanted {
+        return add(text, at, words);
+    }
+    at
+}
+
 // Adds a number in decimal.
 pub(crate) fn add_decimal(text: &mut [u8], at: usize, number: u64) -> usize {
     let mut digits = [0u8; 20];
@@ -24,10 +32,15 @@ pub(crate) fn add_decimal(text: &mut [u8], at: usize, number: u64) -> usize {
     add(text, at, &digits[..n])
 }
 
+// Adds words and a number.
+pub(crate) fn add_number(text: &mut [u8], at: usize, words: &[u8], number: u64) -> usize {
+    let at = add(text, at, words);
+    add_decimal(text, at, number)
+}
+
 // Adds a name, a number and a newline.
 pub(crate) fn add_named(text: &mut [u8], at: usize, name: &[u8], number: u64) -> usize {
-    let at = add(text, at, name);
-    let at = add_decimal(text, at, number);
+    let at = add_number(text, at, name, number);
     add(text, at, b"\n")
 }
 

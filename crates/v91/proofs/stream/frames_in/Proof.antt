@@ -12,12 +12,6 @@ quotient-le b w h l =
     let q : 8 * b / w < 1025 = div-lt-iff-lt-mul h .1 below in
     omega arith
 
-mul-result : tie.Need-mul-result
-mul-result c = search needs
-
-div-result : tie.Need-div-result
-div-result c = search needs
-
 returns : tie.Need-returns
 returns c =
     let b = c .args .bytes in
@@ -26,4 +20,4 @@ returns c =
     (q, omega (arith, div-add-mod' (8 * b) w))
 
 pub frames-in-spec : {M : Type 1} → statement M
-frames-in-spec = tie.close (tie.spec mul-result div-result returns)
+frames-in-spec = tie.close (tie.spec (λ c. search needs) (λ c. search needs) returns)
