@@ -10,16 +10,15 @@ use standard::Refusal;
 ghost use mathlib.Core.Path.{_≡_};
 ghost use lib.ListN.{length, take};
 ghost use Prim.Native.Nat.{_*_, _≤_};
-ghost use mathlib.Core.Bool.{_||_};
 ghost use mathlib.Core.List.{_++_};
-ghost use lib.Dec.{ltb};
 ghost use Rattle.standard.specs.First.{first};
 ghost use Rattle.standard.specs.Bits.{bitsIn, bytesOf, bytesFor, nth};
 ghost use Rattle.standard.specs.Frame.{dataBits, sendFrames, sendAfter, receiveFrames, receiveMarks, receiveAfter};
-ghost use Rattle.standard.specs.Refusals.{outcomeAnswer, recordTests, lineTests, bufferTests, frameTests};
+ghost use Rattle.standard.specs.Refusals.{outcomeAnswer, recordTests, lineTests, bufferTests};
 ghost use Rattle.standard.specs.Calls.{over, sendCall, sendRefusal, sendLeft, sendOctets, receiveCall, receiveRefusal, receiveLeft};
 ghost use Rattle.standard.specs.Calls.{receiveBytes, receiveMarked};
 ghost use Rattle.codec.specs.Allowed.{Allowed};
+ghost use Rattle.codec.specs.Stages.{NeededBy, firstOf};
 
 // The bytes that the data bits of so many frames need.
 fn data_bytes(width: usize, frames: usize) -> usize
@@ -45,19 +44,6 @@ fn line_fault(r: Record, state: LineState, frames: usize) -> Outcome
     Outcome::Done
 }
 
-// Refusals 16 and 17: whether the buffer to be read, and one to be written, is shorter than needed.
-fn buffer_fault(input: bool, output: bool) -> Outcome
-    ensures { λ x. ⌜ outcomeAnswer x ≡ first (bufferTests input output) ⌝ }
-{
-    if input {
-        return Outcome::Refused(Refusal::InputTooShort);
-    }
-    if output {
-        return Outcome::Refused(Refusal::OutputTooShort);
-    }
-    Outcome::Done
-}
-
 // Refusals 4, 9, 10, 25 and 11 to 15.
 fn call_fault(r: Record, state: LineState, frames: usize) -> Outcome
     ensures { λ x. ⌜ outcomeAnswer x ≡ first (recordTests r ++ lineTests r state frames) ⌝ }
@@ -69,36 +55,45 @@ fn call_fault(r: Record, state: LineState, frames: usize) -> Outcome
     line_fault(r, state, frames)
 }
 
-// The first refusal of a call of the sender that lends so many bytes of data and octets of line.
-fn send_fault(r: Record, state: LineState, frames: usize, bytes: usize, octets: usize) -> Outcome
-    ensures { λ x. ⌜ outcomeAnswer x ≡ first (frameTests r state frames (ltb bytes (bytesFor (dataBits r frames))) (ltb octets (6 * frames))) ⌝ }
-{
-    let fault = call_fault(r, state, frames);
-    if let Outcome::Refused(_) = fault {
-        return fault;
-    }
-    let needed = data_bytes(constellation::d_of(r), frames);
-    buffer_fault(bytes < needed, octets < 6 * frames)
+// What a call is refused with before its buffers are looked at, and else the bytes of data and the octets that it needs.
+struct Needed {
+    fault: Outcome,
+    bytes: usize,
+    octets: usize,
 }
 
-// The first refusal of a call of the receiver that lends so many octets of line, bytes of data and marks.
-fn receive_fault(
-    r: Record,
-    state: LineState,
-    frames: usize,
-    octets: usize,
-    bytes: usize,
-    marks: usize,
-) -> Outcome
-    ensures { λ x. ⌜ outcomeAnswer x
-        ≡ first (frameTests r state frames (ltb octets (6 * frames)) (ltb bytes (bytesFor (dataBits r frames)) || ltb marks frames)) ⌝ }
+fn needed_by(r: Record, state: LineState, frames: usize) -> Needed
+    ensures { λ x. ⌜ NeededBy r state frames x ⌝ }
 {
     let fault = call_fault(r, state, frames);
     if let Outcome::Refused(_) = fault {
-        return fault;
+        return Needed {
+            fault: fault,
+            bytes: 0,
+            octets: 0,
+        };
     }
-    let needed = data_bytes(constellation::d_of(r), frames);
-    buffer_fault(octets < 6 * frames, (bytes < needed) | (marks < frames))
+    Needed {
+        fault: fault,
+        bytes: data_bytes(constellation::d_of(r), frames),
+        octets: 6 * frames,
+    }
+}
+
+// A refusal found before, or else 16 and 17: whether the buffer to be read, and one to be written, is shorter than needed.
+fn buffer_fault(before: Outcome, input: bool, output: bool) -> Outcome
+    ensures { λ x. ⌜ outcomeAnswer x ≡ firstOf (outcomeAnswer before) (first (bufferTests input output)) ⌝ }
+{
+    if let Outcome::Refused(_) = before {
+        return before;
+    }
+    if input {
+        return Outcome::Refused(Refusal::InputTooShort);
+    }
+    if output {
+        return Outcome::Refused(Refusal::OutputTooShort);
+    }
+    Outcome::Done
 }
 
 // Sends so many frames: frame n takes its data bits from bit n * D on and writes the six octets from place 6 * n on.
@@ -196,7 +191,13 @@ pub fn send(
         × (x .state ≡ sendLeft state (sendCall r law frames (now (bytes .entry)) (now (octets .entry))))
         × (now (octets .exit) ≡ sendOctets state (sendCall r law frames (now (bytes .entry)) (now (octets .entry)))) ⌝ }
 {
-    let fault = send_fault(r, state, frames, bytes.len(), octets.len());
+    let needed = needed_by(r, state, frames);
+    let before = needed.fault;
+    let fault = buffer_fault(
+        before,
+        bytes.len() < needed.bytes,
+        octets.len() < needed.octets,
+    );
     if let Outcome::Refused(_) = fault {
         return FramesDone {
             outcome: fault,
@@ -229,7 +230,13 @@ pub fn receive(
         × (now (marks .exit) ≡ receiveMarked state
         (receiveCall r law frames (now (octets .entry)) (now (bytes .entry)) (now (marks .entry)))) ⌝ }
 {
-    let fault = receive_fault(r, state, frames, octets.len(), bytes.len(), marks.len());
+    let needed = needed_by(r, state, frames);
+    let before = needed.fault;
+    let fault = buffer_fault(
+        before,
+        octets.len() < needed.octets,
+        (bytes.len() < needed.bytes) | (marks.len() < frames),
+    );
     if let Outcome::Refused(_) = fault {
         return FramesDone {
             outcome: fault,

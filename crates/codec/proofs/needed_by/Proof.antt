@@ -1,0 +1,69 @@
+-- Where no test of the call applies, N is at most 1,024 and D at most 42 + 6. Assumes nothing.
+use mathlib.Core.Path.{refl, ap, _∙_}
+use Prim.Native.Nat.{ℕ, _*_, _≤_}
+use native.Mathlib.Omega.{arith}
+use borrow.Author.Needs.{needs}
+use Rattle.standard.specs.Bits.{bytesFor}
+use Rattle.codec.proofs.Faults.{rate-passed, frames-passed, refused-done}
+use Rattle.codec.proofs.needed_by.Statement.{statement}
+use Rattle.codec.proofs.needed_by.Tie as tie
+
+-- the call's tests are passed
+module _ (c : tie.After-enum-told2) where
+  abbrev start : tie.Start
+  start = c .before .before .before
+
+  rate : start .args .r .drn ≤ 28
+  rate = rate-passed (start .args .r) (start .args .state) (start .args .frames) (c .before .before .call-fault .result)
+      (c .enum-told2 .given .1) (c .before .before .call-fault .ensures)
+
+  few : start .args .frames ≤ 1024
+  few = frames-passed (start .args .r) (start .args .state) (start .args .frames) (c .before .before .call-fault .result)
+      (c .enum-told2 .given .1) (c .before .before .call-fault .ensures)
+
+call-fault-requires : tie.Need-call-fault-requires
+call-fault-requires c κs = search needs
+
+enum-told : tie.Need-enum-told
+enum-told c = search needs
+
+returns : tie.Need-returns
+returns c =
+    record {
+      tested = c .before .before .call-fault .ensures;
+      bytes = λ q. absurd (refused-done _ _ (c .enum-told .given .1) q);
+      octets = λ q. absurd (refused-done _ _ (c .enum-told .given .1) q);
+    }
+
+enum-told-2 : tie.Need-enum-told-2
+enum-told-2 c = search needs
+
+d-of-requires : tie.Need-d-of-requires
+d-of-requires c κs = search needs
+
+data-bytes-requires : tie.Need-data-bytes-requires
+data-bytes-requires c κs = (omega (arith, rate (c .before)), few (c .before))
+
+mul-t7 : tie.Need-mul-t7
+mul-t7 c = omega (arith, few (c .before .before))
+
+returns-2 : tie.Need-returns-2
+returns-2 c =
+    record {
+      tested = c .before .before .before .before .call-fault .ensures;
+      bytes = λ q. c .data-bytes .ensures ∙ ap (λ (w : ℕ). bytesFor (c .before .before .before .before .before .args .frames * w)) (c .before .d-of .ensures);
+      octets = λ q. refl;
+    }
+
+pub needed-by-spec : {M : Type 1} → statement M
+needed-by-spec =
+    tie.close
+    (tie.spec
+    call-fault-requires
+    enum-told
+    returns
+    enum-told-2
+    d-of-requires
+    data-bytes-requires
+    mul-t7
+    returns-2)
