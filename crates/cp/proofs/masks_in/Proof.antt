@@ -14,24 +14,6 @@ Inv-loop cp g mask₀ h₀ mask h = (h ≤ 12) × Filled (halfIn (bitAt cp) g) 1
 abbrev μ-loop : tie.MeasureT-loop
 μ-loop cp g mask₀ h₀ mask h = 12 - h
 
-loop-holds : tie.Need-loop-holds Inv-loop μ-loop
-loop-holds c = (omega arith, filled-none _ 12 _ refl)
-
-half-in-requires : tie.Need-half-in-requires Inv-loop μ-loop
-half-in-requires c κs = omega arith
-
-mul-mask : tie.Need-mul-mask Inv-loop μ-loop
-mul-mask c = omega arith
-
-array-write-mask : tie.Need-array-write-mask Inv-loop μ-loop
-array-write-mask c = omega arith
-
-add-h : tie.Need-add-h Inv-loop μ-loop
-add-h c = omega arith
-
-loop-less : tie.Need-loop-less Inv-loop μ-loop
-loop-less c = omega arith
-
 loop-again : tie.Need-loop-again Inv-loop μ-loop
 loop-again c = (omega arith, filled-more _ (c .before .before .loop .inv .1) (omega arith) (c .half-in .ensures))
 
@@ -44,11 +26,11 @@ masks-in-spec =
     (tie.spec
     Inv-loop
     μ-loop
-    loop-holds
-    half-in-requires
-    mul-mask
-    array-write-mask
-    add-h
-    loop-less
+    (λ c. (omega arith, filled-none _ 12 _ refl))
+    (λ c κs. omega arith)
+    (λ c. omega arith)
+    (λ c. omega arith)
+    (λ c. omega arith)
+    (λ c. omega arith)
     loop-again
     returns)

@@ -5,27 +5,6 @@ use borrow.Author.Needs.{needs}
 use Rattle.cp.proofs.put_head.Statement.{statement}
 use Rattle.cp.proofs.put_head.Tie as tie
 
-put-indices-requires : tie.Need-put-indices-requires
-put-indices-requires c κs = search needs
-
-put-flag-requires : tie.Need-put-flag-requires
-put-flag-requires c κs = search needs
-
-put-byte-field-requires : tie.Need-put-byte-field-requires
-put-byte-field-requires c κs = search needs
-
-put-flag-requires-2 : tie.Need-put-flag-requires-2
-put-flag-requires-2 c κs = search needs
-
-put-flag-requires-3 : tie.Need-put-flag-requires-3
-put-flag-requires-3 c κs = search needs
-
-put-field-requires : tie.Need-put-field-requires
-put-field-requires c κs = search needs
-
-same-length : tie.Need-same-length
-same-length c = search needs
-
 returns : tie.Need-returns
 unfolding putFields headFields
 returns c =
@@ -48,11 +27,11 @@ pub put-head-spec : {M : Type 1} → statement M
 put-head-spec =
     tie.close
     (tie.spec
-    put-indices-requires
-    put-flag-requires
-    put-byte-field-requires
-    put-flag-requires-2
-    put-flag-requires-3
-    put-field-requires
-    same-length
+    (λ c κs. search needs)
+    (λ c κs. search needs)
+    (λ c κs. search needs)
+    (λ c κs. search needs)
+    (λ c κs. search needs)
+    (λ c κs. search needs)
+    (λ c. search needs)
     returns)

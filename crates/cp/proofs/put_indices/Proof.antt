@@ -5,45 +5,6 @@ use borrow.Author.Needs.{needs}
 use Rattle.cp.proofs.put_indices.Statement.{statement}
 use Rattle.cp.proofs.put_indices.Tie as tie
 
-array-read-put-byte-field : tie.Need-array-read-put-byte-field
-array-read-put-byte-field c = search needs
-
-put-byte-field-requires : tie.Need-put-byte-field-requires
-put-byte-field-requires c κs = search needs
-
-array-read-put-byte-field-2 : tie.Need-array-read-put-byte-field-2
-array-read-put-byte-field-2 c = search needs
-
-put-byte-field-requires-2 : tie.Need-put-byte-field-requires-2
-put-byte-field-requires-2 c κs = search needs
-
-array-read-put-byte-field-3 : tie.Need-array-read-put-byte-field-3
-array-read-put-byte-field-3 c = search needs
-
-put-byte-field-requires-3 : tie.Need-put-byte-field-requires-3
-put-byte-field-requires-3 c κs = search needs
-
-array-read-put-byte-field-4 : tie.Need-array-read-put-byte-field-4
-array-read-put-byte-field-4 c = search needs
-
-put-byte-field-requires-4 : tie.Need-put-byte-field-requires-4
-put-byte-field-requires-4 c κs = search needs
-
-array-read-put-byte-field-5 : tie.Need-array-read-put-byte-field-5
-array-read-put-byte-field-5 c = search needs
-
-put-byte-field-requires-5 : tie.Need-put-byte-field-requires-5
-put-byte-field-requires-5 c κs = search needs
-
-array-read-put-byte-field-6 : tie.Need-array-read-put-byte-field-6
-array-read-put-byte-field-6 c = search needs
-
-put-byte-field-requires-6 : tie.Need-put-byte-field-requires-6
-put-byte-field-requires-6 c κs = search needs
-
-same-length : tie.Need-same-length
-same-length c = search needs
-
 returns : tie.Need-returns
 unfolding putFields headFields
 returns c =
@@ -66,17 +27,17 @@ pub put-indices-spec : {M : Type 1} → statement M
 put-indices-spec =
     tie.close
     (tie.spec
-    array-read-put-byte-field
-    put-byte-field-requires
-    array-read-put-byte-field-2
-    put-byte-field-requires-2
-    array-read-put-byte-field-3
-    put-byte-field-requires-3
-    array-read-put-byte-field-4
-    put-byte-field-requires-4
-    array-read-put-byte-field-5
-    put-byte-field-requires-5
-    array-read-put-byte-field-6
-    put-byte-field-requires-6
-    same-length
+    (λ c. search needs)
+    (λ c κs. search needs)
+    (λ c. search needs)
+    (λ c κs. search needs)
+    (λ c. search needs)
+    (λ c κs. search needs)
+    (λ c. search needs)
+    (λ c κs. search needs)
+    (λ c. search needs)
+    (λ c κs. search needs)
+    (λ c. search needs)
+    (λ c κs. search needs)
+    (λ c. search needs)
     returns)

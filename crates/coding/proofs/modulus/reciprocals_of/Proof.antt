@@ -13,30 +13,6 @@ Inv-loop sizes found₀ i₀ found i = (i ≤ 6) × Filled (reciprocalOf sizes) 
 abbrev μ-loop : tie.MeasureT-loop
 μ-loop sizes found₀ i₀ found i = 6 - i
 
-loop-holds : tie.Need-loop-holds Inv-loop μ-loop
-loop-holds c = (omega arith, filled-none _ 6 _ refl)
-
-mul-reciprocal-of : tie.Need-mul-reciprocal-of Inv-loop μ-loop
-mul-reciprocal-of c = omega arith
-
-array-read-reciprocal-of : tie.Need-array-read-reciprocal-of Inv-loop μ-loop
-array-read-reciprocal-of c = omega arith
-
-reciprocal-of-requires : tie.Need-reciprocal-of-requires Inv-loop μ-loop
-reciprocal-of-requires c κs = tt
-
-mul-found : tie.Need-mul-found Inv-loop μ-loop
-mul-found c = omega arith
-
-array-write-found : tie.Need-array-write-found Inv-loop μ-loop
-array-write-found c = omega arith
-
-add-i : tie.Need-add-i Inv-loop μ-loop
-add-i c = omega arith
-
-loop-less : tie.Need-loop-less Inv-loop μ-loop
-loop-less c = omega arith
-
 loop-again : tie.Need-loop-again Inv-loop μ-loop
 loop-again c = (omega arith, filled-more _ (c .before .before .loop .inv .1) (omega arith) (c .reciprocal-of .ensures))
 
@@ -49,13 +25,13 @@ reciprocals-of-spec =
     (tie.spec
     Inv-loop
     μ-loop
-    loop-holds
-    mul-reciprocal-of
-    array-read-reciprocal-of
-    reciprocal-of-requires
-    mul-found
-    array-write-found
-    add-i
-    loop-less
+    (λ c. (omega arith, filled-none _ 6 _ refl))
+    (λ c. omega arith)
+    (λ c. omega arith)
+    (λ c κs. tt)
+    (λ c. omega arith)
+    (λ c. omega arith)
+    (λ c. omega arith)
+    (λ c. omega arith)
     loop-again
     returns)
