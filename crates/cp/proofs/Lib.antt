@@ -1,3 +1,2 @@
-pub mod Crc
 pub mod Reading
 pub mod Writing

@@ -1,4 +1,1 @@
 pub mod Stages
-pub mod Reading
-pub mod Writing
-pub mod Crc
