@@ -96,6 +96,16 @@ fn buffer_fault(before: Outcome, input: bool, output: bool) -> Outcome
     Outcome::Done
 }
 
+// The answer to a call that is refused: the state is the one it got.
+fn refused(outcome: Outcome, state: LineState) -> FramesDone
+    ensures { λ x. ⌜ (x .outcome ≡ outcome) × (x .state ≡ state) ⌝ }
+{
+    FramesDone {
+        outcome: outcome,
+        state: state,
+    }
+}
+
 // Sends so many frames: frame n takes its data bits from bit n * D on and writes the six octets from place 6 * n on.
 fn send_frames(
     r: Record,
@@ -199,10 +209,7 @@ pub fn send(
         octets.len() < needed.octets,
     );
     if let Outcome::Refused(_) = fault {
-        return FramesDone {
-            outcome: fault,
-            state: state,
-        };
+        return refused(fault, state); // no octet is written
     }
     let left = send_frames(r, law, frames, state, bytes, octets);
     FramesDone {
@@ -238,10 +245,7 @@ pub fn receive(
         (bytes.len() < needed.bytes) | (marks.len() < frames),
     );
     if let Outcome::Refused(_) = fault {
-        return FramesDone {
-            outcome: fault,
-            state: state,
-        };
+        return refused(fault, state); // no byte and no mark is written
     }
     let left = receive_frames(r, law, frames, state, octets, bytes, marks);
     FramesDone {
