@@ -161,7 +161,8 @@ fn write_fault(r: Record, room: usize) -> Outcome
 // The entry: writes the CP of a record, and answers its bit count. Refusals 4, 9, 10, 25, 11, 12 and 17, the first that applies.
 pub fn write_cp(r: Record, cp: &mut [u8]) -> CpWritten
     ensures { λ x. ⌜ (outcomeAnswer (x .outcome) ≡ writeRefusal (writeCall r (now (cp .entry))))
-        × (x .«bit_count» ≡ writeBitCount (writeCall r (now (cp .entry)))) × (now (cp .exit) ≡ writeBytes (writeCall r (now (cp .entry)))) ⌝ }
+        × (x .«bit_count» ≡ writeBitCount (writeCall r (now (cp .entry))))
+        × (now (cp .exit) ≡ writeBytes (writeCall r (now (cp .entry)))) ⌝ }
 {
     let fault = write_fault(r, cp.len());
     if let Outcome::Refused(_) = fault {

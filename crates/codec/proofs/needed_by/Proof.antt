@@ -51,7 +51,8 @@ returns-2 : tie.Need-returns-2
 returns-2 c =
     record {
       tested = c .before .before .before .before .call-fault .ensures;
-      bytes = λ q. c .data-bytes .ensures ∙ ap (λ (w : ℕ). bytesFor (c .before .before .before .before .before .args .frames * w)) (c .before .d-of .ensures);
+      bytes = λ q. c .data-bytes .ensures
+          ∙ ap (λ (w : ℕ). bytesFor (start (c .before .before) .args .frames * w)) (c .before .d-of .ensures);
       octets = λ q. refl;
     }
 

@@ -31,9 +31,6 @@ abbrev μ-loop : tie.MeasureT-loop
 draw-up-requires : tie.Need-draw-up-requires Inv-loop μ-loop
 draw-up-requires c κs = (c .before .before .before .before .before .pre .0 .index, refl, refl)
 
-d-of-requires : tie.Need-d-of-requires Inv-loop μ-loop
-d-of-requires c κs = tt
-
 carry-requires : tie.Need-carry-requires Inv-loop μ-loop
 carry-requires c κs = c .before .before .before .before .before .before .before .pre .0 .history
 
@@ -93,18 +90,6 @@ able c r d =
     let l = c .before .loop in
     receivable r (a .law) (a .frames) _ (a .octets .now) (a .bytes .now) (a .marks .now) _ _ _ (l .line) d (l .inv .0)
 
-mul-at : tie.Need-mul-at Inv-loop μ-loop
-mul-at c = omega (arith, few c)
-
-add-end : tie.Need-add-end Inv-loop μ-loop
-add-end c = omega (arith, few c)
-
-sub-receive-frame : tie.Need-sub-receive-frame Inv-loop μ-loop
-sub-receive-frame c = omega arith
-
-part-receive-frame-start : tie.Need-part-receive-frame-start Inv-loop μ-loop
-part-receive-frame-start c = omega arith
-
 part-receive-frame-end : tie.Need-part-receive-frame-end Inv-loop μ-loop
 part-receive-frame-end c = omega (arith, start (c .before .before .before) .pre .1)
 
@@ -118,52 +103,42 @@ receive-frame-requires c κs =
 
 pour-requires : tie.Need-pour-requires Inv-loop μ-loop
 pour-requires c κs =
-    let b = start (c .before .before .before .before .before .before) in
+    let t = c .before .before .before .before .before in
+    let b = start (t .before) in
     let a = b .args in
-    let l = c .before .before .before .before .before .loop in
-    let room = bits-room (a .r) (l .n) (a .frames) _ (length (a .bytes .now)) (omega arith)
-    (drawn (c .before .before .before .before .before .before) .wide) (b .pre .2) in (
-      l .inv .1,
-      omega (arith, wide (c .before .before .before .before .before .before)),
-      omega
-          (arith, room, long (c .before .before .before .before .before), l .inv .2),
-    )
+    let l = t .loop in
+    let room = bits-room (a .r) (l .n) (a .frames) _ (length (a .bytes .now)) (omega arith) (drawn (t .before) .wide) (b .pre .2) in
+    (l .inv .1, omega (arith, wide (t .before)), omega (arith, room, long t, l .inv .2))
 
 slice-write-marks : tie.Need-slice-write-marks Inv-loop μ-loop
-slice-write-marks c = omega (
-  arith,
-  start (c .before .before .before .before .before .before .before .before .before) .pre .3,
-  c .before .before .before .before .before .before .before .before .loop .inv .3 _
-      (drawn (c .before .before .before .before .before .before .before .before .before)) .longMarks,
-)
-
-add-n : tie.Need-add-n Inv-loop μ-loop
-add-n c = omega (arith, few (c .before .before .before .before .before .before .before .before))
-
-loop-less : tie.Need-loop-less Inv-loop μ-loop
-loop-less c = omega arith
+slice-write-marks c =
+    let t = c .before .before .before .before .before .before .before .before in
+    omega (arith, start (t .before) .pre .3, t .loop .inv .3 _ (drawn (t .before)) .longMarks)
 
 next : (n w : ℕ) → n * w + w ≡ (n + 1) * w
 next n w = sym (ap (λ (k : ℕ). k * w) (add-one n) ∙ suc-mul n w)
 
 loop-again : tie.Need-loop-again Inv-loop μ-loop
 loop-again c =
-    let b = start (c .before .before .before .before .before .before .before .before .before .before) in
+    let p = c .before .before .before in
+    let i = p .before .before .before .before .before in
+    let t = i .before in
+    let b = start (t .before) in
     let a = b .args in
-    let l = c .before .before .before .before .before .before .before .before .before .loop in
-    let w = c .before .before .before .before .before .before .before .before .before .before .before .d-of .result in
-    let e = c .before .before .before .pour .ensures in
-    let got = c .before .before .before .before .before .receive-frame .ensures in
-    let d = drawn (c .before .before .before .before .before .before .before .before .before .before) in
-    let x = got _ (able (c .before .before .before .before .before .before .before .before) _ d) in
+    let l = t .loop in
+    let w = t .before .before .d-of .result in
+    let e = p .pour .ensures in
+    let got = p .before .before .receive-frame .ensures in
+    let d = drawn (t .before) in
+    let x = got _ (able i _ d) in
     let fits = word-fits (a .r) (a .law) (stateOf (l .line)) _ _ w (x .3) (d .wide) in
     let put = pours (l .bytes) (l .pouring) w _ (l .inv .1) fits
-    (omega (arith, wide (c .before .before .before .before .before .before .before .before .before .before))) _ _ (e .0) (e .1) in (
+    (omega (arith, wide (t .before))) _ _ (e .0) (e .1) in (
       x .2,
       put .0,
       put .1 ∙ ap (λ (x : ℕ). x + w) (l .inv .2) ∙ next (l .n) w,
       λ r d.
-          let x = got r (able (c .before .before .before .before .before .before .before .before) r d) in
+          let x = got r (able i r d) in
           receive-more r (a .law) (a .frames) _ (a .octets .now) (a .bytes .now) (a .marks .now) (l .n) _ _ w _ (stateOf (l .line)) _ _ _
           (l .marks) _ (l .inv .3 r d)
           (omega arith) (b .pre .1) (b .pre .3) refl (x .0) (x .1) (x .3) (d .wide) (l .inv .2) (put .2),
@@ -180,9 +155,6 @@ used c =
 pour-out-requires : tie.Need-pour-out-requires Inv-loop μ-loop
 pour-out-requires c κs =
     (c .before .before .loop .inv .1, omega (arith, start (c .before .before .before) .pre .2, long (c .before .before), used (c .before)))
-
-state-of-requires : tie.Need-state-of-requires Inv-loop μ-loop
-state-of-requires c κs = tt
 
 same-length : tie.Need-same-length Inv-loop μ-loop
 same-length c = c .before .before .before .pour-out .kept .0 ∙ long (c .before .before .before .before .before .before)
@@ -224,22 +196,22 @@ receive-frames-spec =
     Inv-loop
     μ-loop
     draw-up-requires
-    d-of-requires
+    (λ c κs. tt)
     carry-requires
     loop-holds
-    mul-at
-    add-end
-    sub-receive-frame
-    part-receive-frame-start
+    (λ c. omega (arith, few c))
+    (λ c. omega (arith, few c))
+    (λ c. omega arith)
+    (λ c. omega arith)
     part-receive-frame-end
     receive-frame-requires
     pour-requires
     slice-write-marks
-    add-n
-    loop-less
+    (λ c. omega (arith, few (c .before .before .before .before .before .before .before .before)))
+    (λ c. omega arith)
     loop-again
     pour-out-requires
-    state-of-requires
+    (λ c κs. tt)
     same-length
     same-length-2
     returns)

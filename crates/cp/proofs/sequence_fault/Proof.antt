@@ -2,10 +2,12 @@
 use mathlib.Core.Path.{_≡_, refl, sym, ap, _∙_}
 use mathlib.Core.Bool.{not}
 use mathlib.Core.List.{List, []}
+use native.Mathlib.Omega.{arith}
 use borrow.Author.Tests.{eq-eqb, ne-eqb}
 use lib.ListN.{drop}
 use Rattle.standard.specs.Bits.{bitAt}
 use Rattle.standard.specs.First.{Answer, Test, first}
+use Rattle.standard.specs.Cp.{cpLength}
 use Rattle.standard.specs.Refusals.{lengthWrong}
 use Rattle.standard.proofs.First.{first-hit, first-skip}
 use Rattle.cp.specs.Stages.{sequenceTests}
@@ -18,7 +20,10 @@ T s = sequenceTests (bitAt (s .args .cp .now)) (s .args .bit-count) (s .args .g)
 
 past1 : (c : tie.Else1) {a : Answer} → a ≡ first (drop 1 (T (c .before .before .before))) → a ≡ first (T (c .before .before .before))
 unfolding sequenceTests lengthWrong
-past1 c e = first-skip _ _ (ap not (eq-eqb _ _ (c .if1 .left ∙ c .before .cp-length .ensures))) e
+past1 c e =
+    let a = c .before .before .before .args in
+    let l : a .bit-count ≡ cpLength (a .g) = omega arith in
+    first-skip _ _ (ap not (eq-eqb _ _ l)) e
 
 past2 : (c : tie.Else2) {a : Answer} → a ≡ first (drop 2 (T (c .before .before .before .before .before)))
     → a ≡ first (T (c .before .before .before .before .before))
@@ -35,7 +40,10 @@ cp-length-requires c κs = search needs
 
 returns : tie.Need-returns
 unfolding sequenceTests lengthWrong
-returns c = first-hit 5 _ _ (ap not (ne-eqb _ _ (λ e. c .if1 .taken (e ∙ sym (c .before .cp-length .ensures)))))
+returns c =
+    let a = c .before .before .before .args in
+    let l : a .bit-count ≡ cpLength (a .g) → ⊥ = λ e. omega arith in
+    first-hit 5 _ _ (ap not (ne-eqb _ _ l))
 
 start-bit-set-requires : tie.Need-start-bit-set-requires
 start-bit-set-requires c κs = search needs

@@ -10,9 +10,8 @@ use Rattle.standard.specs.Record.{topIndex}
 use Rattle.standard.specs.Cp.{cpLength, cpByteCount}
 use Rattle.standard.specs.First.{bare}
 use Rattle.standard.specs.Refusals.{outcomeAnswer, indexTooLarge}
-use Rattle.standard.specs.Calls.{writeRefusal}
+use Rattle.standard.specs.Calls.{writeCall, writeRefusal, writeBitCount, writeBytes}
 use Rattle.standard.proofs.Refusals.{top-lt}
-use Rattle.standard.specs.Calls.{writeCall}
 use Rattle.cp.proofs.Writing.{write-passed, write-refused, write-accepted}
 use borrow.Author.Needs.{needs}
 use native.Mathlib.Omega.{arith}
@@ -38,27 +37,22 @@ needed : (c : tie.After-byte-count) → c .byte-count .result
     ≡ cpByteCount (topIndex (c .before .before .before .before .before .before .args .r))
 needed c = c .byte-count .ensures ∙ ap (λ (g : ℕ). cpByteCount g) (c .before .largest-index .ensures)
 
-write-fault-requires : tie.Need-write-fault-requires
-write-fault-requires c κs = search needs
-
 enum-told : tie.Need-enum-told
 enum-told c = search needs
 
-returns : tie.Need-returns
-returns c =
+-- a refused call leaves the bytes as they were
+kept : (c : tie.After-enum-told)
+    → let a = c .before .before .before .before .args in
+    (outcomeAnswer (c .before .before .write-fault .result) ≡ writeRefusal (writeCall (a .r) (a .cp .now)))
+    × (0 ≡ writeBitCount (writeCall (a .r) (a .cp .now))) × (a .cp .now ≡ writeBytes (writeCall (a .r) (a .cp .now)))
+kept c =
     let a = c .before .before .before .before .args in
     let e = refusal (c .before .before) in
     let k = write-refused (a .r) (a .cp .now) (c .before .before .write-fault .result) _ (c .enum-told .given .1) e in
     (e, k .0, k .1)
 
-enum-told-2 : tie.Need-enum-told-2
-enum-told-2 c = search needs
-
-largest-index-requires : tie.Need-largest-index-requires
-largest-index-requires c κs = search needs
-
-cast-g : tie.Need-cast-g
-cast-g c = search needs
+returns : tie.Need-returns
+returns c = kept c
 
 byte-count-requires : tie.Need-byte-count-requires
 byte-count-requires c κs = omega (arith, top (c .before), c .largest-index .ensures)
@@ -78,9 +72,6 @@ put-cp-requires c κs =
 cp-length-requires : tie.Need-cp-length-requires
 cp-length-requires c κs = let b = c .before .before .before .before .before in omega (arith, top (b .before), b .largest-index .ensures)
 
-same-length : tie.Need-same-length
-same-length c = search needs
-
 returns-2 : tie.Need-returns-2
 returns-2 c =
     let b = c .before .before .before .before .before in
@@ -96,16 +87,16 @@ pub write-cp-spec : {M : Type 1} → statement M
 write-cp-spec =
     tie.close
     (tie.spec
-    write-fault-requires
+    (λ c κs. search needs)
     enum-told
     returns
-    enum-told-2
-    largest-index-requires
-    cast-g
+    (λ c. search needs)
+    (λ c κs. search needs)
+    (λ c. search needs)
     byte-count-requires
     slice-relend-prefix-put-cp
     slice-aggregate-put-cp
     put-cp-requires
     cp-length-requires
-    same-length
+    (λ c. search needs)
     returns-2)
