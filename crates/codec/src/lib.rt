@@ -55,13 +55,14 @@ fn call_fault(r: Record, state: LineState, frames: usize) -> Outcome
     line_fault(r, state, frames)
 }
 
-// What a call is refused with before its buffers are looked at, and else the bytes of data and the octets that it needs.
+// What a call is refused with before its buffers are looked at, and the bytes of data and the octets that it needs.
 struct Needed {
     fault: Outcome,
     bytes: usize,
     octets: usize,
 }
 
+// What a call of so many frames needs, or refusals 4, 9, 10, 25 and 11 to 15.
 fn needed_by(r: Record, state: LineState, frames: usize) -> Needed
     ensures { λ x. ⌜ NeededBy r state frames x ⌝ }
 {

@@ -97,7 +97,8 @@ returns-3 c r s =
     let h = turned (a .line .past) in
     let found = c .before .before .before .before .before .before .labels-in .ensures in
     let signs = c .before .before .before .before .before .before .before .before .signs-in .ensures in
-    let y = c .descramble-past .ensures in
+    let out = c .descramble-past .ensures .0 in
+    let left = c .descramble-past .ensures .1 in
     let inside = sym (outside-is r (a .law) os _ (s .labels) _ found _ (c .before .before .before .before .before .mark-outside .ensures))
     ∙ c .before .before .before .before .if1 .left in
     let number = c .before .before .before .number-of .ensures ∙ number-is r (a .law) os _ (s .labels) _ found inside _ (s .mapped) in
@@ -107,10 +108,10 @@ returns-3 c r s =
     (signs-are (signAt os) _ signs) in
     let bits = heard-bits r (a .law) os (a .line) e small _ (s .mapped) _ _ sign-bits number (s .rate) in (
       sym e,
-      heard-next r (a .law) os (a .line) e small _ (y .1 ∙ ap (λ (bs : List Bool). turned (pushAll h bs)) bits)
+      heard-next r (a .law) os (a .line) e small _ (left ∙ ap (λ (bs : List Bool). turned (pushAll h bs)) bits)
           (c .before .before .before .before .before .before .before .bit-of .ensures ∙ sign-is (signAt os) _ signs 5 (omega arith)),
-      rw (y .1) (turned-lt _),
-      y .0 ∙ ap (λ (bs : List Bool). numberOf (descramble h bs)) bits ∙ ap numberOf (heard-data r (a .law) os (a .line) e small),
+      rw left (turned-lt _),
+      out ∙ ap (λ (bs : List Bool). numberOf (descramble h bs)) bits ∙ ap numberOf (heard-data r (a .law) os (a .line) e small),
     )
 
 pub receive-frame-spec : {M : Type 1} → statement M

@@ -2,8 +2,9 @@
 use mathlib.Core.Path.{_≡_}
 use Prim.Native.Nat.{ℕ, _+_, _-_, _^_, _≤_, _<_}
 use mathlib.Core.Bool.{Bool}
+use native.Mathlib.Nat.{lt-of-le-of-lt}
 use native.Mathlib.Omega.{arith}
-use lib.Bits.{bitAnd, and-le-r}
+use lib.Bits.{bitAnd, and-le-l, and-le-r}
 use lib.Count.{trailingZeros, trailing-le}
 use Rattle.standard.specs.Bits.{bit}
 use Rattle.mapping.specs.Drawing.{leftIn, Drawing}
@@ -31,6 +32,14 @@ one c = lowest-one 64 (c .before .loop .left) (c .loop-test .taken) (c .before .
 
 place : (c : tie.In-loop Inv-loop μ-loop) → c .before .before .args .first + trailingZeros 64 (c .before .loop .left) < 128
 place c = omega (arith, one c .0, c .before .before .pre .0)
+
+loop-again : tie.Need-loop-again Inv-loop μ-loop
+loop-again c =
+    let l = c .before .loop in
+    let f = c .before .before .args .first in (
+      lt-of-le-of-lt (and-le-l _ _) (l .inv .0),
+      λ m d. drawing-more _ _ _ _ _ (l .inv .1 m d) _ (place c) _ (lowest-half f m _ _ _ (one c .0) (one c .1)),
+    )
 
 -- a label is left for it
 labels-left : (c : tie.In-loop Inv-loop μ-loop) → (1 ≤ c .before .loop .c) × (c .before .loop .c ≤ 128)
@@ -67,14 +76,6 @@ sub-left c = omega arith
 
 loop-less : tie.Need-loop-less Inv-loop μ-loop
 loop-less c = omega (arith, and-le-r (c .before .loop .left) (c .before .loop .left - 1), c .loop-test .taken)
-
-loop-again : tie.Need-loop-again Inv-loop μ-loop
-loop-again c =
-    let l = c .before .loop in
-    let f = c .before .before .args .first in (
-      omega (arith, and-le-r (l .left) (l .left - 1), l .inv .0),
-      λ m d. drawing-more _ _ _ _ _ (l .inv .1 m d) _ (place c) _ (lowest-half f m _ _ _ (one c .0) (one c .1)),
-    )
 
 returns : tie.Need-returns Inv-loop μ-loop
 returns c m d =
