@@ -8,19 +8,14 @@ use Rattle.layout.proofs.put_head.Tie as tie
 returns : tie.Need-returns
 unfolding putFields headFields
 returns c =
-    let c6 = c .before .before in
-    let c5 = c6 .before .before .before .before in
-    let c4 = c5 .before .before .before .before in
-    let c3 = c4 .before .before .before .before in
-    let c2 = c3 .before .before .before .before in
-    let c1 = c2 .before .before .before .before in
+    let b = c .before .before .before .before .before .before .before .before .before .before in
     rw (
-      c6 .put-field .ensures,
-      c5 .put-flag3 .ensures,
-      c4 .put-flag2 .ensures,
-      c3 .put-byte-field .ensures,
-      c2 .put-flag .ensures,
-      c1 .put-indices .ensures,
+      c .before .before .put-field .ensures,
+      c .before .before .before .before .before .before .put-flag3 .ensures,
+      b .put-flag2 .ensures,
+      b .before .before .before .before .put-byte-field .ensures,
+      b .before .before .before .before .before .before .before .before .put-flag .ensures,
+      b .before .before .before .before .before .before .before .before .before .before .before .before .put-indices .ensures,
     )
 
 pub put-head-spec : {M : Type 1} → statement M

@@ -8,19 +8,14 @@ use Rattle.layout.proofs.put_indices.Tie as tie
 returns : tie.Need-returns
 unfolding putFields headFields
 returns c =
-    let c6 = c .before .before in
-    let c5 = c6 .before .before .before .before in
-    let c4 = c5 .before .before .before .before in
-    let c3 = c4 .before .before .before .before in
-    let c2 = c3 .before .before .before .before in
-    let c1 = c2 .before .before .before .before in
+    let b = c .before .before .before .before .before .before .before .before .before .before in
     rw (
-      c6 .put-byte-field6 .ensures,
-      c5 .put-byte-field5 .ensures,
-      c4 .put-byte-field4 .ensures,
-      c3 .put-byte-field3 .ensures,
-      c2 .put-byte-field2 .ensures,
-      c1 .put-byte-field .ensures,
+      c .before .before .put-byte-field6 .ensures,
+      c .before .before .before .before .before .before .put-byte-field5 .ensures,
+      b .put-byte-field4 .ensures,
+      b .before .before .before .before .put-byte-field3 .ensures,
+      b .before .before .before .before .before .before .before .before .put-byte-field2 .ensures,
+      b .before .before .before .before .before .before .before .before .before .before .before .before .put-byte-field .ensures,
     )
 
 pub put-indices-spec : {M : Type 1} → statement M
