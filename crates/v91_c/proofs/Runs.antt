@@ -45,10 +45,15 @@ use Rattle.v91_c.proofs.Answers.{frame-short, frame-long}
 calls : {S C D : Type 0} → (S → C → Bool) → (S → C → S) → (C → D) → S → List C → List D
 calls accepts left to = overCalls accepts left (λ s c. to c ∷ [])
 
-module _ {S T C D : Type 0} (accepts : S → C → Bool) (left : S → C → S) (to : C → D) (accepts′ : T → D → Bool) (left′ : T → D → T)
-    (view : S → T) (kept : (s : S) (c : C) → accepts s c ≡ false → view (left s c) ≡ view s)
-    (taken : (s : S) (c : C) → accepts s c ≡ true → accepts′ (view s) (to c) ≡ true)
-    (moved : (s : S) (c : C) → accepts s c ≡ true → view (left s c) ≡ left′ (view s) (to c)) where
+-- a call that is accepted is accepted as the other too and leaves what that leaves, and one that is not leaves what it got
+record Follows {S T C D : Type 0} (accepts : S → C → Bool) (left : S → C → S) (to : C → D) (accepts′ : T → D → Bool) (left′ : T → D → T)
+    (view : S → T) : Type 0 where
+  kept : (s : S) (c : C) → accepts s c ≡ false → view (left s c) ≡ view s
+  taken : (s : S) (c : C) → accepts s c ≡ true → accepts′ (view s) (to c) ≡ true
+  moved : (s : S) (c : C) → accepts s c ≡ true → view (left s c) ≡ left′ (view s) (to c)
+
+module _ {S T C D : Type 0} {accepts : S → C → Bool} {left : S → C → S} {to : C → D} {accepts′ : T → D → Bool} {left′ : T → D → T}
+    {view : S → T} (follows : Follows accepts left to accepts′ left′ view) where
   same-parts : {X : Type 0} (part : S → C → List X) (part′ : T → D → List X)
       → ((s : S) (c : C) → accepts s c ≡ true → part s c ≡ part′ (view s) (to c))
       → (s : S) (cs : List C) → overCalls accepts left part s cs ≡ overCalls accepts′ left′ part′ (view s) (calls accepts left to s cs)
@@ -61,9 +66,10 @@ module _ {S T C D : Type 0} (accepts : S → C → Bool) (left : S → C → S) 
           (calls accepts left to (left s c) cs)
           → overCalls accepts left part s (c ∷ cs) ≡ overCalls accepts′ left′ part′ (view s) (calls accepts left to s (c ∷ cs))
       go true e k =
-          rw (e, taken s c e)
-          (ap₂ _++_ (same s c e) (k ∙ ap (λ (t : T). overCalls accepts′ left′ part′ t (calls accepts left to (left s c) cs)) (moved s c e)))
-      go false e k = rw e (k ∙ ap (λ (t : T). overCalls accepts′ left′ part′ t (calls accepts left to (left s c) cs)) (kept s c e))
+          rw (e, follows .taken s c e)
+          (ap₂ _++_ (same s c e)
+          (k ∙ ap (λ (t : T). overCalls accepts′ left′ part′ t (calls accepts left to (left s c) cs)) (follows .moved s c e)))
+      go false e k = rw e (k ∙ ap (λ (t : T). overCalls accepts′ left′ part′ t (calls accepts left to (left s c) cs)) (follows .kept s c e))
 
   same-all : (P : C → Type 0) (P′ : D → Type 0) → ((c : C) → P c → P′ (to c)) → (s : S) (cs : List C) → AllCalls accepts left P s cs
       → AllCalls accepts′ left′ P′ (view s) (calls accepts left to s cs)
@@ -74,9 +80,12 @@ module _ {S T C D : Type 0} (accepts : S → C → Bool) (left : S → C → S) 
       go : (b : Bool) → accepts s c ≡ b → AllCalls accepts′ left′ P′ (view (left s c)) (calls accepts left to (left s c) cs)
           → AllCalls accepts′ left′ P′ (view s) (calls accepts left to s (c ∷ cs))
       go true e k =
-          rw e
-          ((λ q. same c (w .0 e)), subst (λ (t : T). AllCalls accepts′ left′ P′ t (calls accepts left to (left s c) cs)) (moved s c e) k)
-      go false e k = rw e (subst (λ (t : T). AllCalls accepts′ left′ P′ t (calls accepts left to (left s c) cs)) (kept s c e) k)
+          rw e (
+            (λ q. same c (w .0 e)),
+            subst (λ (t : T). AllCalls accepts′ left′ P′ t (calls accepts left to (left s c) cs))
+                (follows .moved s c e) k,
+          )
+      go false e k = rw e (subst (λ (t : T). AllCalls accepts′ left′ P′ t (calls accepts left to (left s c) cs)) (follows .kept s c e) k)
 
 -- ---- the line state in its bytes
 
@@ -178,31 +187,27 @@ module _ (s : List ℕ) (c : CSend) where
   send-steps = steps (c .rec) s (c .frames) _ _ (λ x. x .answer) (λ x. x .state) sendDone _ refl (λ k. refl) refl (λ k. refl) send-small
       send-none
 
--- the entry's calls for those of C, and what they read and write
-module _ {X : Type 0} (part : List ℕ → CSend → List X) (part′ : LineState → SendCall → List X)
-    (same : (s : List ℕ) (c : CSend) → cSends s c ≡ true → part s c ≡ part′ (stateAt s) (toSend c)) where
-  send-parts : (s : List ℕ) (cs : List CSend) → overCalls cSends cSendLeft part s cs
-      ≡ overCalls sends sendLeft part′ (stateAt s) (calls cSends cSendLeft toSend s cs)
-  send-parts = same-parts cSends cSendLeft toSend sends sendLeft stateAt (λ s c. send-steps s c .kept) (λ s c. send-steps s c .taken)
-      (λ s c. send-steps s c .moved) part part′ same
+send-follows : Follows cSends cSendLeft toSend sends sendLeft stateAt
+send-follows =
+    record { kept = λ s c. send-steps s c .kept; taken = λ s c. send-steps s c .taken; moved = λ s c. send-steps s c .moved }
 
+-- the entry's calls for those of C, and what they read and write
 module _ (s : List ℕ) (cs : List CSend) where
   abbrev sendCalls : List SendCall
   sendCalls = calls cSends cSendLeft toSend s cs
 
   same-message : cMessage s cs ≡ message (stateAt s) sendCalls
   unfolding cMessage message sendBits
-  same-message = send-parts _ _ (λ s c e. refl) s cs
+  same-message = same-parts send-follows _ _ (λ s c e. refl) s cs
 
   same-sent : cSent s cs ≡ sent (stateAt s) sendCalls
   unfolding cSent sent
   same-sent =
-      send-parts _ _ (λ s c e. ap (λ (x : AfterSend). take (6 * c .frames) (x .octets)) (send-steps s c .made e)) s cs
+      same-parts send-follows _ _ (λ s c e. ap (λ (x : AfterSend). take (6 * c .frames) (x .octets)) (send-steps s c .made e)) s cs
 
   same-sender : (r : Record) (l : Law) → CSendsWith r l s cs → SendsWith r l (stateAt s) sendCalls
   unfolding CSendsWith SendsWith
-  same-sender r l = same-all cSends cSendLeft toSend sends sendLeft stateAt (λ s c. send-steps s c .kept) (λ s c. send-steps s c .taken)
-      (λ s c. send-steps s c .moved) _ _ (λ c p. p) s cs
+  same-sender r l = same-all send-follows _ _ (λ c p. p) s cs
 
 -- ---- v91_receive
 
@@ -237,12 +242,9 @@ module _ (s : List ℕ) (c : CReceive) where
   receive-steps = steps (c .rec) s (c .frames) _ _ (λ x. x .answer) (λ x. x .state) receiveDone _ refl (λ k. refl) refl (λ k. refl)
       receive-small receive-none
 
-module _ {X : Type 0} (part : List ℕ → CReceive → List X) (part′ : LineState → ReceiveCall → List X)
-    (same : (s : List ℕ) (c : CReceive) → cReceives s c ≡ true → part s c ≡ part′ (stateAt s) (toReceive c)) where
-  receive-parts : (s : List ℕ) (cs : List CReceive) → overCalls cReceives cReceiveLeft part s cs
-      ≡ overCalls receives receiveLeft part′ (stateAt s) (calls cReceives cReceiveLeft toReceive s cs)
-  receive-parts = same-parts cReceives cReceiveLeft toReceive receives receiveLeft stateAt (λ s c. receive-steps s c .kept)
-      (λ s c. receive-steps s c .taken) (λ s c. receive-steps s c .moved) part part′ same
+receive-follows : Follows cReceives cReceiveLeft toReceive receives receiveLeft stateAt
+receive-follows =
+    record { kept = λ s c. receive-steps s c .kept; taken = λ s c. receive-steps s c .taken; moved = λ s c. receive-steps s c .moved }
 
 module _ (s : List ℕ) (cs : List CReceive) where
   abbrev receiveCalls : List ReceiveCall
@@ -250,23 +252,22 @@ module _ (s : List ℕ) (cs : List CReceive) where
 
   same-read : cOctetsRead s cs ≡ octetsRead (stateAt s) receiveCalls
   unfolding cOctetsRead octetsRead receiveOctets
-  same-read = receive-parts _ _ (λ s c e. refl) s cs
+  same-read = same-parts receive-follows _ _ (λ s c e. refl) s cs
 
   same-given : cHandedOver s cs ≡ handedOver (stateAt s) receiveCalls
   unfolding cHandedOver handedOver
   same-given =
-      receive-parts _ _
+      same-parts receive-follows _ _
       (λ s c e. ap (λ (x : AfterReceive). bitsIn (dataBits (recordAt (c .rec)) (c .frames)) (x .bits)) (receive-steps s c .made e)) s cs
 
   same-marks : cMarksGiven s cs ≡ marksGiven (stateAt s) receiveCalls
   unfolding cMarksGiven marksGiven
   same-marks =
-      receive-parts _ _ (λ s c e. ap (λ (x : AfterReceive). take (c .frames) (x .marks)) (receive-steps s c .made e)) s cs
+      same-parts receive-follows _ _ (λ s c e. ap (λ (x : AfterReceive). take (c .frames) (x .marks)) (receive-steps s c .made e)) s cs
 
   same-receiver : (r : Record) (l : Law) → CReceivesWith r l s cs → ReceivesWith r l (stateAt s) receiveCalls
   unfolding CReceivesWith ReceivesWith
-  same-receiver r l = same-all cReceives cReceiveLeft toReceive receives receiveLeft stateAt (λ s c. receive-steps s c .kept)
-      (λ s c. receive-steps s c .taken) (λ s c. receive-steps s c .moved) _ _ (λ c p. p) s cs
+  same-receiver r l = same-all receive-follows _ _ (λ c p. p) s cs
 
 -- ---- demand 3
 
