@@ -6,96 +6,15 @@ use standard::Law;
 use standard::LineState;
 use standard::Outcome;
 use standard::Record;
-use standard::Refusal;
 ghost use mathlib.Core.Path.{_≡_};
 ghost use lib.ListN.{length, take};
 ghost use Prim.Native.Nat.{_*_, _≤_};
-ghost use mathlib.Core.List.{_++_};
-ghost use Rattle.standard.specs.First.{first};
 ghost use Rattle.standard.specs.Bits.{bitsIn, bytesOf, bytesFor, nth};
 ghost use Rattle.standard.specs.Frame.{dataBits, sendFrames, sendAfter, receiveFrames, receiveMarks, receiveAfter};
-ghost use Rattle.standard.specs.Refusals.{outcomeAnswer, recordTests, lineTests, bufferTests};
+ghost use Rattle.standard.specs.Refusals.{outcomeAnswer};
 ghost use Rattle.standard.specs.Calls.{over, sendCall, sendRefusal, sendLeft, sendOctets, receiveCall, receiveRefusal, receiveLeft};
 ghost use Rattle.standard.specs.Calls.{receiveBytes, receiveMarked};
 ghost use Rattle.codec.specs.Allowed.{Allowed};
-ghost use Rattle.codec.specs.Stages.{NeededBy, firstOf};
-
-// The bytes that the data bits of so many frames need.
-fn data_bytes(width: usize, frames: usize) -> usize
-    requires { ⌜ (width ≤ 48) × (frames ≤ 1024) ⌝ }
-    ensures { λ n. ⌜ n ≡ bytesFor (frames * width) ⌝ }
-{
-    (frames * width + 7) / 8
-}
-
-// Refusals 13 to 15.
-fn line_fault(r: Record, state: LineState, frames: usize) -> Outcome
-    ensures { λ x. ⌜ outcomeAnswer x ≡ first (lineTests r state frames) ⌝ }
-{
-    if (1 <= frames) & (r.drn == 0) {
-        return Outcome::Refused(Refusal::FramesAtCleardown);
-    }
-    if 0x80_0000 <= state.history {
-        return Outcome::Refused(Refusal::HistoryTooLarge);
-    }
-    if 1024 < frames {
-        return Outcome::Refused(Refusal::TooManyFrames);
-    }
-    Outcome::Done
-}
-
-// Refusals 4, 9, 10, 25 and 11 to 15.
-fn call_fault(r: Record, state: LineState, frames: usize) -> Outcome
-    ensures { λ x. ⌜ outcomeAnswer x ≡ first (recordTests r ++ lineTests r state frames) ⌝ }
-{
-    let fault = constellation::record_fault(r);
-    if let Outcome::Refused(_) = fault {
-        return fault;
-    }
-    line_fault(r, state, frames)
-}
-
-// What a call is refused with before its buffers are looked at, and the bytes of data and the octets that it needs.
-struct Needed {
-    fault: Outcome,
-    bytes: usize,
-    octets: usize,
-}
-
-// What a call of so many frames needs, or refusals 4, 9, 10, 25 and 11 to 15.
-fn needed_by(r: Record, state: LineState, frames: usize) -> Needed
-    ensures { λ x. ⌜ NeededBy r state frames x ⌝ }
-{
-    let fault = call_fault(r, state, frames);
-    if let Outcome::Refused(_) = fault {
-        return Needed {
-            fault: fault,
-            bytes: 0,
-            octets: 0,
-        };
-    }
-    Needed {
-        fault: fault,
-        bytes: data_bytes(constellation::d_of(r), frames),
-        octets: 6 * frames,
-    }
-}
-
-// A refusal found before, or else 16 and 17: whether the buffer to be read, and one to be written, is shorter than needed.
-fn buffer_fault(before: Outcome, input: bool, output: bool) -> Outcome
-    ensures { λ x. ⌜ outcomeAnswer x ≡ firstOf (outcomeAnswer before) (first (bufferTests input output)) ⌝ }
-{
-    if let Outcome::Refused(_) = before {
-        return before;
-    }
-    if input {
-        return Outcome::Refused(Refusal::InputTooShort);
-    }
-    if output {
-        return Outcome::Refused(Refusal::OutputTooShort);
-    }
-    Outcome::Done
-}
 
 // The answer to a call that is refused: the state is the one it got.
 fn refused(outcome: Outcome, state: LineState) -> FramesDone
@@ -202,9 +121,9 @@ pub fn send(
         × (x .state ≡ sendLeft state (sendCall r law frames (now (bytes .entry)) (now (octets .entry))))
         × (now (octets .exit) ≡ sendOctets state (sendCall r law frames (now (bytes .entry)) (now (octets .entry)))) ⌝ }
 {
-    let needed = needed_by(r, state, frames);
+    let needed = needs::needed_by(r, state, frames);
     let before = needed.fault;
-    let fault = buffer_fault(
+    let fault = needs::buffer_fault(
         before,
         bytes.len() < needed.bytes,
         octets.len() < needed.octets,
@@ -238,9 +157,9 @@ pub fn receive(
         × (now (marks .exit) ≡ receiveMarked state
         (receiveCall r law frames (now (octets .entry)) (now (bytes .entry)) (now (marks .entry)))) ⌝ }
 {
-    let needed = needed_by(r, state, frames);
+    let needed = needs::needed_by(r, state, frames);
     let before = needed.fault;
-    let fault = buffer_fault(
+    let fault = needs::buffer_fault(
         before,
         octets.len() < needed.octets,
         (bytes.len() < needed.bytes) | (marks.len() < frames),

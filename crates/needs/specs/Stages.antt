@@ -11,7 +11,7 @@ use Rattle.standard.specs.Calls.{accepted}
 use Rattle.standard.specs.declared.LineState.{LineState}
 use Rattle.standard.specs.declared.Outcome.the-variants.{Done}
 use Rattle.standard.specs.declared.Record.{Record}
-use Rattle.codec.specs.declared.Needed.{Needed}
+use Rattle.needs.specs.declared.Needed.{Needed}
 
 -- x is what a call of n frames is refused with before its buffers are looked at, and what it needs where it is not
 pub record NeededBy (r : Record) (st : LineState) (n : ℕ) (x : Needed) : Type 0 where

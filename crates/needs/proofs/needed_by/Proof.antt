@@ -4,9 +4,9 @@ use Prim.Native.Nat.{ℕ, _*_, _≤_}
 use native.Mathlib.Omega.{arith}
 use borrow.Author.Needs.{needs}
 use Rattle.standard.specs.Bits.{bytesFor}
-use Rattle.codec.proofs.Faults.{rate-passed, frames-passed, refused-done}
-use Rattle.codec.proofs.needed_by.Statement.{statement}
-use Rattle.codec.proofs.needed_by.Tie as tie
+use Rattle.needs.proofs.Faults.{rate-passed, frames-passed, refused-done}
+use Rattle.needs.proofs.needed_by.Statement.{statement}
+use Rattle.needs.proofs.needed_by.Tie as tie
 
 -- the call's tests are passed
 module _ (c : tie.After-enum-told2) where

@@ -1,0 +1,89 @@
+// What a call of the sender or of the receiver is refused for, and what it needs of its buffers.
+use standard::LineState;
+use standard::Outcome;
+use standard::Record;
+use standard::Refusal;
+ghost use mathlib.Core.Path.{_≡_};
+ghost use Prim.Native.Nat.{_*_, _≤_};
+ghost use mathlib.Core.List.{_++_};
+ghost use Rattle.standard.specs.First.{first};
+ghost use Rattle.standard.specs.Bits.{bytesFor};
+ghost use Rattle.standard.specs.Refusals.{outcomeAnswer, recordTests, lineTests, bufferTests};
+ghost use Rattle.needs.specs.Stages.{NeededBy, firstOf};
+
+// The bytes that the data bits of so many frames need.
+fn data_bytes(width: usize, frames: usize) -> usize
+    requires { ⌜ (width ≤ 48) × (frames ≤ 1024) ⌝ }
+    ensures { λ n. ⌜ n ≡ bytesFor (frames * width) ⌝ }
+{
+    (frames * width + 7) / 8
+}
+
+// Refusals 13 to 15.
+fn line_fault(r: Record, state: LineState, frames: usize) -> Outcome
+    ensures { λ x. ⌜ outcomeAnswer x ≡ first (lineTests r state frames) ⌝ }
+{
+    if (1 <= frames) & (r.drn == 0) {
+        return Outcome::Refused(Refusal::FramesAtCleardown);
+    }
+    if 0x80_0000 <= state.history {
+        return Outcome::Refused(Refusal::HistoryTooLarge);
+    }
+    if 1024 < frames {
+        return Outcome::Refused(Refusal::TooManyFrames);
+    }
+    Outcome::Done
+}
+
+// Refusals 4, 9, 10, 25 and 11 to 15.
+fn call_fault(r: Record, state: LineState, frames: usize) -> Outcome
+    ensures { λ x. ⌜ outcomeAnswer x ≡ first (recordTests r ++ lineTests r state frames) ⌝ }
+{
+    let fault = constellation::record_fault(r);
+    if let Outcome::Refused(_) = fault {
+        return fault;
+    }
+    line_fault(r, state, frames)
+}
+
+// What a call is refused with before its buffers are looked at, and the bytes of data and the octets that it needs.
+pub struct Needed {
+    pub fault: Outcome,
+    pub bytes: usize,
+    pub octets: usize,
+}
+
+// What a call of so many frames needs, or refusals 4, 9, 10, 25 and 11 to 15.
+pub fn needed_by(r: Record, state: LineState, frames: usize) -> Needed
+    ensures { λ x. ⌜ NeededBy r state frames x ⌝ }
+{
+    let fault = call_fault(r, state, frames);
+    if let Outcome::Refused(_) = fault {
+        return Needed {
+            fault: fault,
+            bytes: 0,
+            octets: 0,
+        };
+    }
+    Needed {
+        fault: fault,
+        bytes: data_bytes(constellation::d_of(r), frames),
+        octets: 6 * frames,
+    }
+}
+
+// A refusal found before, or else 16 and 17: whether the buffer to be read, and one to be written, is shorter than needed.
+pub fn buffer_fault(before: Outcome, input: bool, output: bool) -> Outcome
+    ensures { λ x. ⌜ outcomeAnswer x ≡ firstOf (outcomeAnswer before) (first (bufferTests input output)) ⌝ }
+{
+    if let Outcome::Refused(_) = before {
+        return before;
+    }
+    if input {
+        return Outcome::Refused(Refusal::InputTooShort);
+    }
+    if output {
+        return Outcome::Refused(Refusal::OutputTooShort);
+    }
+    Outcome::Done
+}
