@@ -20,12 +20,13 @@
  * before everything else, in the order of the parameters, since nothing can be said of it.
  *
  * The archive is for x86-64 with the System V calling convention; the toolchain makes no other. It has no
- * data that is written: the functions keep nothing between calls, and may be called from several threads or
- * interrupts at once, on buffers of their own. They allocate nothing, call no function but memset, and
- * return. The stack is to be aligned to 16 bytes at the call, as the convention says. SSE2 registers
- * (xmm0 to xmm15) are used, so an interrupt that calls a function has to save them; memory below the
- * stack pointer is used as the convention allows (128 bytes, the red zone).
- * (measured)
+ * data that is written: the functions keep nothing between calls and are reentrant, each call on buffers of
+ * its own. They allocate nothing, call no function but memset, and return. The stack is to be aligned to 16
+ * bytes at the call, as the convention says. SSE registers are used (xmm0 to xmm15), so an interrupt that
+ * calls a function has to save them; so is the red zone, 128 bytes below the stack pointer. Measured by
+ * interop/footprint in calls of 1,024 frames with six full masks, the red zone included: 19,774 bytes of
+ * code and 576 of constants; of stack 576 bytes (v91_write_cp), 688 (v91_read_cp), 2,640 (v91_send), 2,576
+ * (v91_receive) and 8 (v91_linear).
  */
 #ifndef V91_H
 #define V91_H
