@@ -1,8 +1,7 @@
 -- What a call has passed before its buffers are looked at, and the tests of the buffers after them. Assumes nothing.
-use mathlib.Core.Path.{_≡_, refl, ap, _∙_}
+use mathlib.Core.Path.{_≡_, refl, sym, ap, _∙_}
 use Prim.Native.Nat.{ℕ, _≤_}
 use mathlib.Core.List.{List, _++_}
-use native.Mathlib.Omega.{arith}
 use borrow.Author.Tests.{ltb-false}
 use Rattle.standard.specs.First.{Answer, Test, first}
 use Rattle.standard.specs.Refusals.{refusalAnswer, outcomeAnswer, drnTooLarge, tooManyFrames, rateTests, recordTests}
@@ -15,7 +14,7 @@ use Rattle.standard.specs.declared.Refusal.{Refusal}
 use Rattle.standard.proofs.First.{None, none-split}
 use Rattle.standard.proofs.Stages.{refused-not, done-none, stage-hit, stage-past}
 use Rattle.standard.proofs.Refusals.{line-numbered}
-use Rattle.needs.specs.Stages.{firstOf}
+use Rattle.needs.specs.Stages.{whereDone, firstOf}
 
 module _ (r : Record) (st : LineState) (n : ℕ) (o : Outcome) (q : o ≡ Done)
     (e : outcomeAnswer o ≡ first (recordTests r ++ lineTests r st n)) where
@@ -39,5 +38,9 @@ then-buffers r st n Done us vs e same k = stage-past Done (recordTests r ++ line
 then-buffers r st n (Refused x) us vs e same k = k ∙ rw (refused-not (Refused x) x (refusalAnswer x) refl refl)
     (stage-hit (Refused x) x (recordTests r ++ lineTests r st n) vs refl e)
 
-pub refused-done : (o : Outcome) (x : Refusal) → o ≡ Refused x → o ≡ Done → ⊥
-refused-done o x q e = let z : _≡_ {A = ℕ} 0 1 = cc in omega arith
+-- what a call needs where it is not refused, and where it is
+pub needed-done : (o : Outcome) (k : ℕ) → o ≡ Done → whereDone o k ≡ k
+needed-done o k q = ap (λ (x : Outcome). whereDone x k) q
+
+pub needed-none : (o : Outcome) (x : Refusal) (k : ℕ) → o ≡ Refused x → 0 ≡ whereDone o k
+needed-none o x k q = sym (ap (λ (y : Outcome). whereDone y k) q)

@@ -9,15 +9,21 @@ use Rattle.standard.specs.Frame.{dataBits}
 use Rattle.standard.specs.Refusals.{outcomeAnswer, recordTests, lineTests}
 use Rattle.standard.specs.Calls.{accepted}
 use Rattle.standard.specs.declared.LineState.{LineState}
-use Rattle.standard.specs.declared.Outcome.the-variants.{Done}
+use Rattle.standard.specs.declared.Outcome.{Outcome}
+use Rattle.standard.specs.declared.Outcome.the-variants.{Done, Refused}
 use Rattle.standard.specs.declared.Record.{Record}
 use Rattle.needs.specs.declared.Needed.{Needed}
+
+-- k where nothing is refused, and else 0
+abbrev pub whereDone : Outcome → ℕ → ℕ
+whereDone Done k = k
+whereDone (Refused x) k = 0
 
 -- x is what a call of n frames is refused with before its buffers are looked at, and what it needs where it is not
 pub record NeededBy (r : Record) (st : LineState) (n : ℕ) (x : Needed) : Type 0 where
   pub tested : outcomeAnswer (x .fault) ≡ first (recordTests r ++ lineTests r st n)
-  pub bytes : x .fault ≡ Done → x .bytes ≡ bytesFor (dataBits r n)
-  pub octets : x .fault ≡ Done → x .octets ≡ 6 * n
+  pub bytes : x .bytes ≡ whereDone (x .fault) (bytesFor (dataBits r n))
+  pub octets : x .octets ≡ whereDone (x .fault) (6 * n)
 
 -- the answer of a stage of tests, or where it refuses nothing, that of the next
 abbrev pub firstOf : Answer → Answer → Answer

@@ -1,10 +1,11 @@
 -- Where no test of the call applies, N is at most 1,024 and D at most 42 + 6. Assumes nothing.
-use mathlib.Core.Path.{refl, ap, _∙_}
+use mathlib.Core.Path.{sym, ap, _∙_}
 use Prim.Native.Nat.{ℕ, _*_, _≤_}
 use native.Mathlib.Omega.{arith}
 use borrow.Author.Needs.{needs}
 use Rattle.standard.specs.Bits.{bytesFor}
-use Rattle.needs.proofs.Faults.{rate-passed, frames-passed, refused-done}
+use Rattle.standard.specs.Frame.{dataBits}
+use Rattle.needs.proofs.Faults.{rate-passed, frames-passed, needed-done, needed-none}
 use Rattle.needs.proofs.needed_by.Statement.{statement}
 use Rattle.needs.proofs.needed_by.Tie as tie
 
@@ -29,10 +30,11 @@ enum-told c = search needs
 
 returns : tie.Need-returns
 returns c =
+    let a = c .before .before .before .args in
     record {
       tested = c .before .before .call-fault .ensures;
-      bytes = λ q. absurd (refused-done _ _ (c .enum-told .given .1) q);
-      octets = λ q. absurd (refused-done _ _ (c .enum-told .given .1) q);
+      bytes = needed-none _ _ (bytesFor (dataBits (a .r) (a .frames))) (c .enum-told .given .1);
+      octets = needed-none _ _ (6 * a .frames) (c .enum-told .given .1);
     }
 
 enum-told-2 : tie.Need-enum-told-2
@@ -49,11 +51,13 @@ mul-t7 c = omega (arith, few (c .before .before))
 
 returns-2 : tie.Need-returns-2
 returns-2 c =
+    let a = start (c .before .before) .args in
+    let done = c .before .before .enum-told2 .given .1 in
     record {
       tested = c .before .before .before .before .call-fault .ensures;
-      bytes = λ q. c .data-bytes .ensures
-          ∙ ap (λ (w : ℕ). bytesFor (start (c .before .before) .args .frames * w)) (c .before .d-of .ensures);
-      octets = λ q. refl;
+      bytes = c .data-bytes .ensures ∙ ap (λ (w : ℕ). bytesFor (a .frames * w)) (c .before .d-of .ensures)
+          ∙ sym (needed-done _ (bytesFor (dataBits (a .r) (a .frames))) done);
+      octets = sym (needed-done _ (6 * a .frames) done);
     }
 
 pub needed-by-spec : {M : Type 1} → statement M
