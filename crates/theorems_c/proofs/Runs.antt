@@ -34,11 +34,11 @@ use Rattle.forms.specs.Coded.{coded}
 use Rattle.forms.specs.RecordBytes.{recordLength, recordAt}
 use Rattle.forms.specs.StateBytes.{stateLength, stateBytes, stateAt}
 use Rattle.forms.proofs.Back.{state-back, record-back}
 use Rattle.v91_c.specs.Interface.{lawOf, answered, frameAnswer, stateLeft, v91ReadCp, AfterSend, v91Send, AfterReceive, v91Receive}
-use Rattle.v91_c.specs.Runs.{CSend, afterSend, cSends, cSendLeft, cMessage, cSent, CSendsWith, CReceive, afterReceive, cReceives}
-use Rattle.v91_c.specs.Runs.{cReceiveLeft, cOctetsRead, cHandedOver, cMarksGiven, CReceivesWith, CRunsDeliver}
-use Rattle.v91_c.specs.Runs.{CMessagesDiffer, CRecordRead}
+use Rattle.theorems_c.specs.Runs.{CSend, afterSend, cSends, cSendLeft, cMessage, cSent, CSendsWith, CReceive, afterReceive, cReceives}
+use Rattle.theorems_c.specs.Runs.{cReceiveLeft, cOctetsRead, cHandedOver, cMarksGiven, CReceivesWith, CRunsDeliver}
+use Rattle.theorems_c.specs.Runs.{CMessagesDiffer, CRecordRead}
 use Rattle.v91_c.proofs.Answers.{frame-short, frame-long}
 
 -- ---- two lists of calls: the accepted calls of one, with what each is for the other
 

@@ -28,9 +28,9 @@ use Rattle.theorems.specs.Examples.{common}
 use Rattle.theorems.specs.Runs.{overCalls, AllCalls, clean, Carried, Delivered}
 use Rattle.forms.specs.RecordBytes.{recordByte, recordBytes, recordAt}
 use Rattle.forms.specs.StateBytes.{stateByte, stateBytes, stateAt}
 use Rattle.v91_c.specs.Interface.{answered, frameAnswer, stateLeft, v91Send, v91Receive}
-use Rattle.v91_c.specs.Runs.{CSend, CReceive, cMessage, cSent, CSendsWith, cOctetsRead, cHandedOver, cMarksGiven, CReceivesWith, CRun}
-use Rattle.v91_c.proofs.Runs.{c-runs}
+use Rattle.theorems_c.specs.Runs.{CSend, CReceive, cMessage, cSent, CSendsWith, cOctetsRead, cHandedOver, cMarksGiven, CReceivesWith, CRun}
+use Rattle.theorems_c.proofs.Runs.{c-runs}
 
 abbrev send : List ℕ → ℕ → List ℕ → CSend
 send rec n bits = record { rec = rec; aLaw = false; frames = n; bits = bits; octets = replicate 12 7 }

@@ -1,0 +1,1 @@
+// Demand 3 of the C functions: statements in specs/, proofs in proofs/.
