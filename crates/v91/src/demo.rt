@@ -66,10 +66,10 @@ fn add_run(text: &mut [u8], at: usize, r: Record) -> usize {
     add(text, at, b"\n")
 }
 
-// Writes the description of the record and the run.
-pub(crate) fn demo() {
+// Writes the description of the record and the run, and returns whether it could.
+pub(crate) fn demo() -> bool {
     let mut text = [0u8; 4096];
     let at = add_cp(&mut text, example());
     let at = add_run(&mut text, at, example());
-    write_text(&text, at);
+    write_text(&text, at)
 }

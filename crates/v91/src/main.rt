@@ -1,19 +1,25 @@
-// The V.91 line codec at the command line, over the proved entries. `v91` alone says what it takes.
-// The language has no exit status: the program always ends with status 0. What it could not do it says on standard error, in a line
-// that begins with `v91:` or with the name of the file; a stream that ended well is summed up there too.
+// The V.91 line codec at the command line, over the proved entries. `v91 help` says what it takes.
+// The language has no exit status: the program always ends with status 0. Its last line on standard error is `v91: ok` where all that was
+// asked is done, else `v91: failed`, and the lines before it say why; `bin/v91` ends with a status by that line.
 mod demo;
 mod describe;
 mod input;
 mod refusals;
 mod samples;
 mod stream;
+mod wanted;
 mod words;
 
 use describe::add_record;
 use input::complain_refusal;
 use input::load_argument;
-use refusals::add_refusal;
 use standard::Law;
+use stream::Asked;
+use wanted::Bytes;
+use wanted::Named;
+use wanted::argument_in;
+use wanted::bytes_argument;
+use wanted::law_argument;
 use words::complain;
 use words::write;
 use words::write_text;
@@ -25,167 +31,168 @@ enum Command {
     Receive,
     Linear,
     Demo,
+    Help,
+    Version,
     Unknown,
 }
 
-// The law that an argument names.
-enum Named {
-    Is(Law),
-    Unknown,
-}
-
-// The command of a word.
-fn command_of(word: &[u8]) -> Command {
-    if check::same(word, b"cp") {
-        return Command::Cp;
+// The command that argument 1 names.
+fn named_command() -> Command {
+    match argument_in(
+        1,
+        b"cp\nsend\nreceive\nlinear\ndemo\nhelp\n--help\n-h\n--version\n",
+    ) {
+        1 => Command::Cp,
+        2 => Command::Send,
+        3 => Command::Receive,
+        4 => Command::Linear,
+        5 => Command::Demo,
+        6 => Command::Help,
+        7 => Command::Help,
+        8 => Command::Help,
+        9 => Command::Version,
+        _ => Command::Unknown,
     }
-    if check::same(word, b"send") {
-        return Command::Send;
-    }
-    if check::same(word, b"receive") {
-        return Command::Receive;
-    }
-    if check::same(word, b"linear") {
-        return Command::Linear;
-    }
-    if check::same(word, b"demo") {
-        return Command::Demo;
-    }
-    Command::Unknown
-}
-
-// The law that argument i names.
-fn law_argument(i: usize) -> Named {
-    let mut word = [0u8; 16];
-    let n = os::arg(i, &mut word);
-    if check::same(&word[..n], b"mu") {
-        return Named::Is(Law::Mu);
-    }
-    if check::same(&word[..n], b"a") {
-        return Named::Is(Law::A);
-    }
-    complain(b"LAW is mu or a");
-    Named::Unknown
 }
 
 // Says how the program is used.
-fn help() {
+fn help() -> bool {
     write(
         b"v91: the V.91 line codec
-  v91 cp FILE                          a CP sequence in plain words
-  v91 send CPFILE LAW < data > octets  data bits to the line
+  v91 cp FILE                           a CP sequence in plain words
+  v91 send CPFILE LAW < data > octets   data bits to the line; the last frame is filled with zero bits
+  v91 send CPFILE LAW exact             the same, but bits at the end that fill no frame are not sent
   v91 receive CPFILE LAW < octets > data
-  v91 linear LAW < octets > text       linear samples, one a line
-  v91 demo                             an example: a CP written and read, 63 bits sent and received
-LAW is mu or a. A CP file has 37, 54, 71, 88, 105 or 122 bytes.
-The exit status is always 0: what could not be done is said on standard error.
+  v91 receive CPFILE LAW BYTES          the same, but no more than so many bytes of data
+  v91 linear LAW < octets > text        linear samples, one a line
+  v91 demo                              an example: a CP written and read, 63 bits sent and received
+  v91 help, v91 --version
+LAW is mu or a (ulaw, alaw). A CP file has 37, 54, 71, 88, 105 or 122 bytes.
+The last line on standard error is `v91: ok` or `v91: failed`; bin/v91 ends with status 0 or 1 by it.
 ",
-    );
+    )
 }
 
 // Describes the CP file that argument 2 names, or says its refusal.
-fn describe_cp() {
+fn describe_cp() -> bool {
     let loaded = load_argument(2);
     if !loaded.found {
-        return;
+        return false;
     }
     let read = loaded.read;
     let outcome = read.outcome;
-    let r = read.record;
     let code = forms::code_of(outcome);
-    let mut text = [0u8; 8192];
-    if code == 0 {
-        let at = add_record(&mut text, 0, r, loaded.bit_count);
-        write_text(&text, at);
-    } else {
-        let at = add_refusal(&mut text, 0, code);
-        let at = words::add(&mut text, at, b"\n");
-        write_text(&text, at);
+    if code != 0 {
+        complain_refusal(code);
+        return false;
     }
+    let mut text = [0u8; 8192];
+    let at = add_record(&mut text, 0, read.record, loaded.bit_count);
+    write_text(&text, at)
 }
 
-// Sends or receives with the CP file that argument 2 names, under a law.
-fn stream_with(law: Law, sends: bool) {
+// Sends or receives, as asked, with the CP file that argument 2 names, under a law.
+fn stream_with(law: Law, asked: Asked) -> bool {
     let loaded = load_argument(2);
     if !loaded.found {
-        return;
+        return false;
     }
     let read = loaded.read;
     let outcome = read.outcome;
-    let r = read.record;
     let code = forms::code_of(outcome);
     if code != 0 {
         complain(b"the CP file is refused");
         complain_refusal(code);
-        return;
+        return false;
     }
-    stream::run(r, law, sends);
+    stream::run(read.record, law, asked)
 }
 
-// Sends or receives under the law that argument 3 names.
-fn run_stream(sends: bool) {
+// Sends or receives, as asked, under the law that argument 3 names.
+fn run_stream(asked: Asked) -> bool {
     let named = law_argument(3);
     if let Named::Is(law) = named {
-        stream_with(law, sends);
+        return stream_with(law, asked);
     }
+    false
+}
+
+// Sends: whole frames alone where argument 4 says so.
+fn run_send() -> bool {
+    let exact = os::arg_count() == 5;
+    if exact && argument_in(4, b"exact\n") == 0 {
+        complain(b"after LAW there may be the word exact");
+        return false;
+    }
+    run_stream(Asked {
+        sends: true,
+        exact,
+        wanted: u64::MAX,
+    })
+}
+
+// Receives: so many bytes of data where argument 4 says so.
+fn run_receive() -> bool {
+    let bytes = bytes_argument(4);
+    let Bytes::Are(wanted) = bytes else {
+        complain(b"BYTES is a number of up to 18 digits");
+        return false;
+    };
+    run_stream(Asked {
+        sends: false,
+        exact: false,
+        wanted,
+    })
 }
 
 // Writes linear samples under the law that argument 2 names.
-fn run_linear() {
+fn run_linear() -> bool {
     let named = law_argument(2);
     if let Named::Is(law) = named {
-        samples::linear(law);
+        return samples::linear(law);
     }
+    false
 }
 
-// Whether the command has its arguments; says so where it has not.
-fn has(wanted: usize) -> bool {
-    let right = os::arg_count() == wanted;
+// Whether there are so many words on the command line; says so where there are not.
+fn has(least: usize, most: usize) -> bool {
+    let count = os::arg_count();
+    let right = (least <= count) & (count <= most);
     if !right {
-        complain(b"wrong number of arguments; v91 alone says what it takes");
+        complain(b"wrong number of arguments; v91 help says what there are");
     }
     right
 }
 
-// Runs a command.
-fn run(command: Command) {
+// Runs a command, and returns whether all of it was done.
+fn run(command: Command) -> bool {
     match command {
-        Command::Cp => {
-            if has(3) {
-                describe_cp();
-            }
+        Command::Cp => has(3, 3) && describe_cp(),
+        Command::Send => has(4, 5) && run_send(),
+        Command::Receive => has(4, 5) && run_receive(),
+        Command::Linear => has(3, 3) && run_linear(),
+        Command::Demo => has(2, 2) && demo::demo(),
+        Command::Help => help(),
+        Command::Version => write(b"v91 1\n"),
+        Command::Unknown => {
+            complain(b"no such command; v91 help says what there are");
+            false
         }
-        Command::Send => {
-            if has(4) {
-                run_stream(true);
-            }
-        }
-        Command::Receive => {
-            if has(4) {
-                run_stream(false);
-            }
-        }
-        Command::Linear => {
-            if has(3) {
-                run_linear();
-            }
-        }
-        Command::Demo => {
-            if has(2) {
-                demo::demo();
-            }
-        }
-        Command::Unknown => complain(b"no such command; v91 alone says what it takes"),
     }
 }
 
 // Runs the command of the first argument, or says how the program is used.
-fn main() {
+fn run_words() -> bool {
     if os::arg_count() < 2 {
-        help();
-        return;
+        return help();
     }
-    let mut word = [0u8; 16];
-    let n = os::arg(1, &mut word);
-    run(command_of(&word[..n]));
+    run(named_command())
+}
+
+fn main() {
+    if run_words() {
+        complain(b"ok");
+    } else {
+        complain(b"failed");
+    }
 }

@@ -24,26 +24,42 @@ fn add_samples(text: &mut [u8], samples: &[i32]) -> usize {
     at
 }
 
-// Writes the samples of what the next read gives, and returns whether the input goes on.
-fn linear_some(law: Law) -> bool {
+// What came of a read: whether the input goes on, and whether something failed.
+struct Some {
+    more: bool,
+    failed: bool,
+}
+
+// Writes the samples of what the next read gives.
+fn linear_some(law: Law) -> Some {
     let mut octets = [0u8; 1024];
     let mut samples = [0i32; 1024];
     let mut text = [0u8; 16384];
     let got = read_input(&mut octets, 1024);
     if got.failed {
-        return false;
+        return Some {
+            more: false,
+            failed: true,
+        };
     }
     let n = got.count;
     pcm::linear(law, &octets, &mut samples);
     let at = add_samples(&mut text, &samples[0..n]);
-    write_text(&text, at) && n == 1024
+    let written = write_text(&text, at);
+    Some {
+        more: written & (n == 1024),
+        failed: !written,
+    }
 }
 
-// Writes the linear sample of each octet of standard input, one a line. A proved loop has to end, so this one counts down from a number
-// that no run uses up.
-pub(crate) fn linear(law: Law) {
+// Writes the linear sample of each octet of standard input, one a line, and returns whether all went well. A proved loop has to end, so
+// this one counts down from a number that no run uses up.
+pub(crate) fn linear(law: Law) -> bool {
     let mut turns = u64::MAX;
-    while turns > 0 && linear_some(law) {
+    let mut some = linear_some(law);
+    while turns > 0 && some.more {
+        some = linear_some(law);
         turns -= 1;
     }
+    !some.failed
 }

@@ -38,6 +38,14 @@ pub(crate) fn add_number(text: &mut [u8], at: usize, words: &[u8], number: u64) 
     add_decimal(text, at, number)
 }
 
+// Adds a number and what there are so many of, with an s but for one of them.
+pub(crate) fn add_count(text: &mut [u8], at: usize, number: u64, name: &[u8]) -> usize {
+    let at = add_decimal(text, at, number);
+    let at = add(text, at, b" ");
+    let at = add(text, at, name);
+    add_if(text, at, number != 1, b"s")
+}
+
 // Adds a name, a number and a newline.
 pub(crate) fn add_named(text: &mut [u8], at: usize, name: &[u8], number: u64) -> usize {
     let at = add_number(text, at, name, number);
