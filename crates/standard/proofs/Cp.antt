@@ -74,9 +74,6 @@ module _ (r : Record) where
   abbrev runField : ℕ → Field
   runField k = maskRun r (k / 8) (k % 8)
 
-  run-place : (k : ℕ) → runPlace (k / 8) (k % 8) ≡ 137 + 17 * k
-  run-place k = omega arith
-
   run-off : (k n : ℕ) → (n < 137 + 17 * k) ⊎ (153 + 17 * k ≤ n) → covers (runField k) n ≡ false
   run-off k n (inl a) = covers-no (runField k) n (inl (omega arith))
   run-off k n (inr a) = covers-no (runField k) n (inr (omega arith))

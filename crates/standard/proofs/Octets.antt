@@ -28,9 +28,6 @@ module _ (l : Law) (s : Bool) (u : ℕ) (h : u < 128) where
   both : T (Bool·beq (signOf (octet l s u)) s && eqb (ucodeOf l (octet l s u)) u)
   both = and-right (ltb (octet l s u) 256) _ row
 
-  pub octet-lt : octet l s u < 256
-  octet-lt = ltb→lt (octet l s u) 256 (and-left (ltb (octet l s u) 256) _ row)
-
   pub sign-back : signOf (octet l s u) ≡ s
   sign-back = beq→eq (signOf (octet l s u)) s (and-left (Bool·beq (signOf (octet l s u)) s) _ both)
 

@@ -159,6 +159,14 @@ module _ (rec s : List ℕ) (n : ℕ) (a : Answer) (left : LineState) where
             kept = λ z. ap stateAt (back (coded (frameAnswer rec s a)));
           })
 
+-- so the calls of C, each of which is `to` for the entry, follow the entry's
+follow : {C D X : Type 0} (answer : X → ℕ) (state : X → List ℕ) (made : List ℕ → C → X) (to : C → D) (refusal : LineState → D → Answer)
+    (left : LineState → D → LineState) (done : List ℕ → C → X)
+    → ((s : List ℕ) (c : C) → Steps answer state s (refusal (stateAt s) (to c)) (left (stateAt s) (to c)) (done s c) (made s c))
+    → Follows (λ s c. eqb (answer (made s c)) 0) (λ s c. state (made s c)) to (λ st d. accepted (refusal st d)) left stateAt
+follow answer state made to refusal left done step =
+    record { kept = λ s c. step s c .kept; taken = λ s c. step s c .taken; moved = λ s c. step s c .moved }
+
 -- ---- v91_send
 
 abbrev toSend : CSend → SendCall
@@ -188,8 +196,7 @@ module _ (s : List ℕ) (c : CSend) where
       send-none
 
 send-follows : Follows cSends cSendLeft toSend sends sendLeft stateAt
-send-follows =
-    record { kept = λ s c. send-steps s c .kept; taken = λ s c. send-steps s c .taken; moved = λ s c. send-steps s c .moved }
+send-follows = follow (λ x. x .answer) (λ x. x .state) afterSend toSend sendRefusal sendLeft sendDone send-steps
 
 -- the entry's calls for those of C, and what they read and write
 module _ (s : List ℕ) (cs : List CSend) where
@@ -243,8 +250,7 @@ module _ (s : List ℕ) (c : CReceive) where
       receive-small receive-none
 
 receive-follows : Follows cReceives cReceiveLeft toReceive receives receiveLeft stateAt
-receive-follows =
-    record { kept = λ s c. receive-steps s c .kept; taken = λ s c. receive-steps s c .taken; moved = λ s c. receive-steps s c .moved }
+receive-follows = follow (λ x. x .answer) (λ x. x .state) afterReceive toReceive receiveRefusal receiveLeft receiveDone receive-steps
 
 module _ (s : List ℕ) (cs : List CReceive) where
   abbrev receiveCalls : List ReceiveCall
