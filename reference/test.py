@@ -1,19 +1,24 @@
 """Tests of the model: `python3 reference/test.py` prints a line for each group, then 'ok'.
 
-With -v it also says how many stored cases and rows of Table 1 each wrong codec fails.
+With -v it also says how many stored cases and rows of Table 1 each wrong codec fails, and at which
+line of the stored run each wrong program first differs.
 """
 
+import re
 import sys
 import traceback
-from itertools import product
+from itertools import product, zip_longest
 from unittest.mock import patch
 
 import cases_cp
 import cases_frames
 import cp
+import describe
 import forms
 import frames
+import program
 import record as records
+import trial
 import vectors
 from frames import FRESH, State
 from linear import linear
@@ -288,9 +293,14 @@ def demand_3():
 
 # The stored cases
 
+def stored_text(name):
+    """The text of a stored file."""
+    return vectors.stored(name).decode("ascii")
+
+
 def stored_lines(name):
     """The byte strings of a stored file."""
-    return [bytes.fromhex(line) for line in vectors.stored(name).splitlines()]
+    return [bytes.fromhex(line) for line in stored_text(name).splitlines()]
 
 
 def stored_cases():
@@ -311,9 +321,9 @@ def stored_answers():
     of_cp = [case for case, _ in both if case[0] in (forms.READ_CP, forms.WRITE_CP)]
     check(len(of_cp) <= 1100, "lines of vectors_cp")
     check(max(map(len, of_cp)) <= 300, "a line of vectors_cp")
-    texts = [vectors.stored(f"vectors_frames/{name}") for name in ("stdin", "stdout")]
+    texts = [stored_text(f"vectors_frames/{name}") for name in ("stdin", "stdout")]
     check(sum(map(len, texts)) < 1_500_000, "size of vectors_frames")
-    check(vectors.stored("vectors_pcm/stdout").count("\n") == 512, "lines of vectors_pcm")
+    check(stored_text("vectors_pcm/stdout").count("\n") == 512, "lines of vectors_pcm")
     return f"{len(both)} cases"
 
 
@@ -950,7 +960,7 @@ def stopped(changes, both, stored):
 
 def wrong_codecs():
     """Every wrong codec fails at a stored case or a stored row."""
-    both, stored = stored_cases(), vectors.stored("vectors_pcm/stdout").splitlines()
+    both, stored = stored_cases(), stored_text("vectors_pcm/stdout").splitlines()
     found = {name: stopped(changes, both, stored) for name, changes in WRONG_CODECS.items()}
     if "-v" in sys.argv:
         for name, count in found.items():
@@ -960,8 +970,279 @@ def wrong_codecs():
     return f"{len(found)} stopped"
 
 
+# The program
+
+def verdicts(script, lines):
+    """(Command, whether it succeeded) for each command of a transcript."""
+    left, found, under_way = script.splitlines(), [], None
+    for line in lines:
+        if left and line == left[0]:
+            under_way = left.pop(0)
+        elif line in ("v91: ok", "v91: failed"):
+            found.append((under_way, line == "v91: ok"))
+    same(left, [], "lines of the script that are not in the transcript")
+    return found
+
+
+def said(files, command):
+    """The lines that one command writes and says; the last is whether it succeeded."""
+    return program.transcript(files, command).decode().splitlines()[1:]
+
+
+def a_length(draw, n):
+    """The length of a message; one in 40 takes more than a call's frames."""
+    return 6200 if n % 40 == 7 else draw.pick((0, 1, 2, 3, draw.below(200)))
+
+
+def program_round_trips():
+    """Sent and received, filled and exact; the octets are those of the sender's calls."""
+    draw = Draw(5)
+    for n in range(200):
+        record, law = a_record(draw, 1 + n % 28), draw.below(2)
+        data, width = draw.octets(a_length(draw, n)), frames.frame_bits(record)
+        files = {"r.cp": cases_cp.plain(record), "data": data}
+        words = f"r.cp {('mu', 'a')[law]}"
+        script = (f"send {words} < data > octets\nreceive {words} {len(data)} < octets > back\n"
+                  f"receive {words} < octets > all\n"
+                  f"send {words} exact < data > part\nreceive {words} < part > begin\n")
+        lines = program.transcript(files, script).decode().splitlines()
+        check("v91: failed" not in lines, f"failed: {lines}")
+        same(files["back"], data, "data received")
+        count, whole = -(-8 * len(data) // width), 8 * len(data) // width
+        same(files["all"], data.ljust(frames.data_bytes(record, count), b"\0"), "data and zeros")
+        begin = frames.get_bits(data, 0, whole * width)
+        same(files["begin"], begin.to_bytes(frames.data_bytes(record, whole), "little"),
+             "data of whole frames")
+        if count <= 1024:
+            same(files["octets"], sent(record, law, count, FRESH, data + bytes(6))[0], "octets")
+        same(files["part"], files["octets"][:6 * whole], "octets of whole frames")
+    return "200 messages"
+
+
+def doubtful_one_by_one(marks, width):
+    """How many bits of good frames have a bit of a marked frame among the 24 before them."""
+    total = 0
+    for place in range(len(marks) * width):
+        if marks[place // width] == 0:
+            total += any(marks[p // width] for p in range(max(place - 24, 0), place))
+    return total
+
+
+def program_sentences():
+    """What is said of marks, of words and of rates, by examples."""
+    same(program.run_sentences([0, 3, 3, 0, 7, 1, 0, 6]),
+         ["frames 1 to 2: interval 2 outside its mask; the 24 bits after that are doubtful",
+          "frame 4: the number R is 2^K or more",
+          "frame 5: interval 0 outside its mask; the 24 bits after that are doubtful",
+          "frame 7: interval 5 outside its mask"], "runs of marks")
+    draw = Draw(6)
+    for _ in range(200):
+        marks = [draw.pick((0, 0, draw.below(8))) for _ in range(draw.below(30))]
+        width = draw.between(21, 48)
+        same(program.doubtful_bits(marks, width), doubtful_one_by_one(marks, width), "doubtful")
+    files = {"example.cp": cases_cp.plain(EXAMPLE), "data": b"ab", "octets": b"\x7a" * 15}
+    same(said(files, "send example.cp MU < data > line"),
+         ["v91: 1 frame sent; 5 zero bits at the end fill the last one", "v91: ok"], "send")
+    same(said(files, "receive example.cp a 9 < octets > back"),
+         ["v91: frames 0 to 1: interval 0 outside its mask",
+          "v91: 2 frames received, 2 of them marked", "v91: 3 octets at the end make no frame",
+          "v91: 2 bits of data in the last byte", "v91: the input ended 3 bytes of data too early",
+          "v91: failed"], "receive")
+    same((files["back"], len(files["line"])), (bytes(6), 6), "files written")
+    same(said(files, "linear mu < data"), ["-356", "-340", "v91: ok"], "linear")
+    same([describe.rate(make(0, drn, 0, [0] * 6, [])) for drn in (1, 2, 3, 4, 17, 28)],
+         ["28", "29 1/3", "30 2/3", "32", "49 1/3", "64"], "rates")
+    same(describe.mask_line(1, 0x1FD1), "mask 1: Ucodes 0 4 6-12", "a mask")
+    same(describe.demo_lines()[-2:],
+         ["bits 21 to 44, the 24 after it, are doubtful: 7 of them are not as sent",
+          "bits 45 to 62 are as sent again"], "the demo's end")
+    ones, heard = b"\xff" * 8, bytes.fromhex("000080ff0ffeff7f")
+    same([describe.wrong_bits(ones, heard, *part) for part in ((0, 21), (45, 18))], [21, 0],
+         "bits of the demo")
+    return "marks, words, rates, the demo"
+
+
+def stored_data():
+    """The stored data files of v91: {name: bytes}."""
+    return {name: vectors.stored(f"{vectors.DATA}/{name}")
+            for name in (*trial.data_files(), trial.NAME)}
+
+
+def stored_run():
+    """The stored run is text within bounds and has each refusal, command and kind of sentence."""
+    data, lines = stored_data(), stored_text("v91/stdout").splitlines()
+    script = data[trial.NAME].decode("ascii")
+    check(len(script) <= 16_000, "length of the script")
+    check(sum(map(len, data.values())) < 60_000, "data files")
+    check(stored_text("v91/stdout").replace("\t", "").replace("\n", "").replace("\x7f", "")
+          .isprintable(), "the transcript is no text")
+    found = verdicts(script, lines)
+    told = {int(number) for number in re.findall(r"\(refusal (\d+)\)", "\n".join(lines))}
+    same(told, {*range(2, 12), 13, 25}, "refusals told")
+    outcomes = {(program.words_of(command)[0].lower(), good) for command, good in found}
+    for command in ("cp", "send", "receive", "linear", "demo"):
+        check({(command, True), (command, False)} <= outcomes, f"{command} good and failing")
+    check({("--version", True), ("run", False), ("nonsense", False)} <= outcomes, "other words")
+    same(set(map(len, trial.good_cps().values())), set(describe.CP_LENGTHS), "lengths of CPs read")
+    good = sum(verdict for _, verdict in found)
+    return f"{len(found)} commands, {good} good, {len(found) - good} failing"
+
+
+# Wrong programs
+
+CALL = frames.MOST_FRAMES
+RIGHT_PROGRAM = {name: getattr(program, name)
+                 for name in ("COMMANDS", "bytes_wanted", "cp_in", "data_and_marks",
+                              "doubtful_bits", "octets_for", "run_sentence", "runs_of", "send")}
+RIGHT_RUNS = describe.ucode_runs
+
+
+def sender_fresh_each_call(record, law, count, data):
+    """Each call of the sender begins in the fresh state."""
+    step = frames.data_bytes(record, CALL)
+    return b"".join(RIGHT_PROGRAM["octets_for"](record, law, min(CALL, count - first),
+                                                data[first // CALL * step:])
+                    for first in range(0, count, CALL))
+
+
+def receiver_fresh_each_call(record, law, octets):
+    """Each call of the receiver begins in the fresh state."""
+    parts = [RIGHT_PROGRAM["data_and_marks"](record, law, octets[first:first + 6 * CALL])
+             for first in range(0, len(octets), 6 * CALL)]
+    return b"".join(data for data, _ in parts), [mark for _, marks in parts for mark in marks]
+
+
+def runs_cut_at_calls(marks):
+    """A run ends with its call."""
+    return [(mark, first + base, last + base) for base in range(0, len(marks), CALL)
+            for mark, first, last in RIGHT_PROGRAM["runs_of"](marks[base:base + CALL])]
+
+
+def runs_of_all_marks(marks):
+    """Marked frames are one run, whatever their marks; it has the first of them."""
+    return [(marks[first], first, last) for _, first, last
+            in RIGHT_PROGRAM["runs_of"]([mark > 0 for mark in marks])]
+
+
+def doubt_ends_with_call(marks, width):
+    """No bit is doubtful by a frame of the call before."""
+    return sum(RIGHT_PROGRAM["doubtful_bits"](marks[base:base + CALL], width)
+               for base in range(0, len(marks), CALL))
+
+
+def doubt_of_whole_frames(marks, width):
+    """All bits of the frame after a marked one are doubtful."""
+    return sum(width for before, mark in zip(marks, marks[1:]) if before and not mark)
+
+
+def filled_with_ones(record, law, count, data):
+    """The last frame is filled with one bits."""
+    return RIGHT_PROGRAM["octets_for"](record, law, count, data + b"\xff" * 6)
+
+
+def last_byte_dropped(record, law, octets):
+    """Only bytes that are full are given."""
+    data, marks = RIGHT_PROGRAM["data_and_marks"](record, law, octets)
+    return data[:len(marks) * frames.frame_bits(record) // 8], marks
+
+
+def first_number_kept(words):
+    """The first number counts."""
+    RIGHT_PROGRAM["bytes_wanted"](words)
+    return RIGHT_PROGRAM["bytes_wanted"](words[:1])
+
+
+def cp_before_law(call, cp_name, *words):
+    """The CP file is looked at before the law."""
+    RIGHT_PROGRAM["cp_in"](call.files, cp_name)
+    RIGHT_PROGRAM["send"](call, cp_name, *words)
+
+
+def exact_unread(record, data, exact):
+    """The last frame is always filled."""
+    return -(-8 * len(data) // frames.frame_bits(record))
+
+
+def runs_in_halves(mask):
+    """A run of Ucodes ends with the half of its mask."""
+    upper = RIGHT_RUNS(mask >> 64)
+    return RIGHT_RUNS(mask % 2**64) + [(first + 64, last + 64) for first, last in upper]
+
+
+def always_plural(number, word):
+    """Every word has an s."""
+    return f"{number} {word}s"
+
+
+def commands_with(**changed):
+    """The commands, some of them changed."""
+    commands = RIGHT_PROGRAM["COMMANDS"]
+    return commands | {name: (command, *commands[name][1:]) for name, command in changed.items()}
+
+
+WRONG_PROGRAMS = {
+    "sender fresh in each call": {"program.octets_for": sender_fresh_each_call},
+    "receiver fresh in each call": {"program.data_and_marks": receiver_fresh_each_call},
+    "runs cut at calls": {"program.runs_of": runs_cut_at_calls},
+    "runs of all marks": {"program.runs_of": runs_of_all_marks},
+    "runs of one frame": {"program.runs_of": lambda marks:
+                          [(mark, n, n) for n, mark in enumerate(marks)]},
+    "frames counted from 1": {"program.run_sentence": lambda mark, first, last, follows:
+                              RIGHT_PROGRAM["run_sentence"](mark, first + 1, last + 1, follows)},
+    "doubt said always": {"program.run_sentence": lambda mark, first, last, follows:
+                          RIGHT_PROGRAM["run_sentence"](mark, first, last, True)},
+    "doubt ends with its call": {"program.doubtful_bits": doubt_ends_with_call},
+    "doubt of whole frames": {"program.doubtful_bits": doubt_of_whole_frames},
+    "19 runs said": {"program.MOST_RUNS": 19},
+    "21 runs said": {"program.MOST_RUNS": 21},
+    "filled with ones": {"program.octets_for": filled_with_ones},
+    "exact not looked at": {"program.frame_count": exact_unread},
+    "BYTES not looked at": {"program.bytes_wanted": lambda words: None},
+    "first number kept": {"program.bytes_wanted": first_number_kept},
+    "last byte dropped": {"program.data_and_marks": last_byte_dropped},
+    "CP before the law": {"program.COMMANDS": commands_with(send=cp_before_law)},
+    "8 bits a byte": {"program.read_file": lambda octets: cp.read_cp(octets, 8 * len(octets))},
+    "whole kbit/s": {"describe.rate": lambda record: frames.frame_bits(record) * 4 // 3},
+    "Ucodes in halves": {"describe.ucode_runs": runs_in_halves},
+    "plural always": {"program.counted": always_plural, "describe.counted": always_plural},
+    "control characters shown": {"program.shown": lambda name: name},
+    "one space between words": {"program.words_of": lambda line: line.split(" ")},
+}
+
+
+def first_differing(changes, wanted):
+    """The line, from 1, at which a wrong program's run first differs; 0 where it does not.
+
+    The program is given by what it changes.
+    """
+    data = stored_data()
+    changed = [patch(name, value) for name, value in changes.items()]
+    for each in changed:
+        each.start()
+    try:
+        found = program.transcript(data, data[trial.NAME].decode("ascii")).splitlines()
+        differ = [a != b for a, b in zip_longest(found, wanted)]
+        return differ.index(True) + 1 if any(differ) else 0
+    finally:
+        for each in changed:
+            each.stop()
+
+
+def wrong_programs():
+    """Every wrong program differs from the stored run."""
+    wanted = vectors.stored("v91/stdout").splitlines()
+    found = {name: first_differing(changes, wanted) for name, changes in WRONG_PROGRAMS.items()}
+    if "-v" in sys.argv:
+        for name, line in found.items():
+            print(f"    {name}: differs from line {line} of {len(wanted)} on")
+    check(all(found.values()), f"not stopped: {[name for name in found if not found[name]]}")
+    same(first_differing({}, wanted), 0, "the model itself")
+    return f"{len(found)} stopped"
+
+
 GROUPS = (table_1, examples, values, steps, cp_round_trips, demand_3, stored_answers,
-          stored_refusals, stored_coverage, empty_intervals, wrong_codecs)
+          stored_refusals, stored_coverage, empty_intervals, wrong_codecs, program_round_trips,
+          program_sentences, stored_run, wrong_programs)
 
 
 def main():

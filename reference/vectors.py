@@ -1,7 +1,7 @@
-"""Makes the stored inputs and outputs of the programs crates/vectors_*, and the output of v91.
+"""Makes the stored inputs and outputs of the programs crates/vectors_*, and the stored run of v91.
 
 `python3 reference/vectors.py` says for each stored file whether it is the same as made here;
-`python3 reference/vectors.py --write` writes them.
+`python3 reference/vectors.py --write` writes them, and removes other data files of v91.
 """
 
 import sys
@@ -9,11 +9,13 @@ from pathlib import Path
 
 import cases_cp
 import cases_frames
-from demo import demo_text
+import trial
 from forms import answer
+from program import transcript
 from table1 import octet_by_rule, octet_of, value_by_rule, value_of
 
 CRATES = Path(__file__).resolve().parent.parent / "crates"
+DATA = "v91/data"
 
 
 def hex_lines(byte_strings):
@@ -37,26 +39,64 @@ def pcm_lines():
     return "".join(lines)
 
 
-def files():
-    """The stored files: {path under crates: text}."""
-    made = {"vectors_pcm/stdout": pcm_lines(), "v91/stdout": demo_text()}
+def texts():
+    """The stored files of the programs vectors_*: {path under crates: text}."""
+    made = {"vectors_pcm/stdout": pcm_lines()}
     for name, cases in (("vectors_cp", cases_cp.cases()), ("vectors_frames", cases_frames.cases())):
         made[f"{name}/stdin"] = hex_lines(cases)
         made[f"{name}/stdout"] = hex_lines(map(answer, cases))
     return made
 
 
+def run_files():
+    """The stored run of v91: arguments, data files with the script, and output."""
+    data = trial.data_files() | {trial.NAME: trial.SCRIPT.encode("ascii")}
+    return {"v91/args": trial.ARGUMENTS.encode("ascii"),
+            **{f"{DATA}/{name}": octets for name, octets in data.items()},
+            "v91/stdout": transcript(dict(data), trial.SCRIPT)}
+
+
+def files():
+    """The stored files: {path under crates: bytes}."""
+    return {name: text.encode("ascii") for name, text in texts().items()} | run_files()
+
+
 def stored(name):
-    """The text of a stored file; an absent one is empty."""
+    """The bytes of a stored file; None where it is absent."""
     path = CRATES / name
-    return path.read_bytes().decode("ascii", "replace") if path.exists() else ""
+    return path.read_bytes() if path.exists() else None
 
 
-def write(name, text):
+def write(name, octets):
     """Store a file."""
     path = CRATES / name
     path.parent.mkdir(parents=True, exist_ok=True)
-    path.write_bytes(text.encode("ascii"))
+    path.write_bytes(octets)
+
+
+def others(made):
+    """The data files of v91 that are stored and not made here."""
+    return sorted({f"{DATA}/{path.name}" for path in (CRATES / DATA).glob("*")} - set(made))
+
+
+def write_all(made):
+    """Store all files, and remove the others."""
+    for name, octets in made.items():
+        write(name, octets)
+        print(f"{name}: written")
+    for name in others(made):
+        (CRATES / name).unlink()
+        print(f"{name}: removed")
+
+
+def compare_all(made):
+    """Say which files differ; how many do."""
+    differing = [name for name, octets in made.items() if stored(name) != octets]
+    for name in made:
+        print(f"{name}: {'differs' if name in differing else 'same'}")
+    for name in others(made):
+        print(f"{name}: differs (not made here)")
+    return len(differing) + len(others(made))
 
 
 def main(arguments):
@@ -64,16 +104,10 @@ def main(arguments):
     if arguments not in ([], ["--write"]):
         print("usage: vectors.py [--write]")
         return 2
-    differing = 0
-    for name, text in files().items():
-        if arguments:
-            write(name, text)
-            print(f"{name}: written")
-        else:
-            same = stored(name) == text
-            differing += not same
-            print(f"{name}: {'same' if same else 'differs'}")
-    return 1 if differing else 0
+    if arguments:
+        write_all(files())
+        return 0
+    return 1 if compare_all(files()) else 0
 
 
 if __name__ == "__main__":

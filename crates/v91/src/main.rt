@@ -1,198 +1,121 @@
 // The V.91 line codec at the command line, over the proved entries. `v91 help` says what it takes.
 // The language has no exit status: the program always ends with status 0. Its last line on standard error is `v91: ok` where all that was
 // asked is done, else `v91: failed`, and the lines before it say why; `bin/v91` ends with a status by that line.
-mod demo;
-mod describe;
-mod input;
-mod refusals;
-mod samples;
+mod asked;
+mod cp_file;
+mod output;
+mod script;
 mod stream;
-mod wanted;
-mod words;
 
-use describe::add_record;
-use input::complain_refusal;
-use input::load_argument;
-use standard::Law;
-use stream::Asked;
-use wanted::Bytes;
-use wanted::Named;
-use wanted::argument_in;
-use wanted::bytes_argument;
-use wanted::law_argument;
-use words::complain;
-use words::write;
-use words::write_text;
-
-// What the first argument asks for.
-enum Command {
-    Cp,
-    Send,
-    Receive,
-    Linear,
-    Demo,
-    Help,
-    Version,
-    Unknown,
-}
-
-// The command that argument 1 names.
-fn named_command() -> Command {
-    match argument_in(
-        1,
-        b"cp\nsend\nreceive\nlinear\ndemo\nhelp\n--help\n-h\n--version\n",
-    ) {
-        1 => Command::Cp,
-        2 => Command::Send,
-        3 => Command::Receive,
-        4 => Command::Linear,
-        5 => Command::Demo,
-        6 => Command::Help,
-        7 => Command::Help,
-        8 => Command::Help,
-        9 => Command::Version,
-        _ => Command::Unknown,
-    }
-}
+use console::Ends;
+use console::fail;
+use console::fail_name;
+use console::tell;
+use output::write;
 
 // Says how the program is used.
-fn help() -> bool {
+fn help(e: Ends) -> bool {
     write(
+        e,
         b"v91: the V.91 line codec
   v91 cp FILE                           a CP sequence in plain words
-  v91 send CPFILE LAW < data > octets   data bits to the line; the last frame is filled with zero bits
+  v91 send CPFILE LAW < data > octets   data to the line; zero bits fill the last frame
   v91 send CPFILE LAW exact             the same, but bits at the end that fill no frame are not sent
   v91 receive CPFILE LAW < octets > data
   v91 receive CPFILE LAW BYTES          the same, but no more than so many bytes of data
   v91 linear LAW < octets > text        linear samples, one a line
-  v91 demo                              an example: a CP written and read, 63 bits sent and received
+  v91 demo                              an example: a CP, 63 bits sent and received, and one octet damaged
+  v91 demo cp > FILE                    the CP of the example
+  v91 run FILE                          the commands in FILE, one a line, each with its own < FILE and > FILE
   v91 help, v91 --version
 LAW is mu or a (ulaw, alaw). A CP file has 37, 54, 71, 88, 105 or 122 bytes.
+The word progress after LAW has send, receive and linear show how far they are, as they do where standard error is a terminal.
 The last line on standard error is `v91: ok` or `v91: failed`; bin/v91 ends with status 0 or 1 by it.
 ",
     )
 }
 
-// Describes the CP file that argument 2 names, or says its refusal.
-fn describe_cp() -> bool {
-    let loaded = load_argument(2);
-    if !loaded.found {
-        return false;
-    }
-    let read = loaded.read;
-    let outcome = read.outcome;
-    let code = forms::code_of(outcome);
-    if code != 0 {
-        complain_refusal(code);
-        return false;
-    }
-    let mut text = [0u8; 8192];
-    let at = add_record(&mut text, 0, read.record, loaded.bit_count);
-    write_text(&text, at)
-}
-
-// Sends or receives, as asked, with the CP file that argument 2 names, under a law.
-fn stream_with(law: Law, asked: Asked) -> bool {
-    let loaded = load_argument(2);
-    if !loaded.found {
-        return false;
-    }
-    let read = loaded.read;
-    let outcome = read.outcome;
-    let code = forms::code_of(outcome);
-    if code != 0 {
-        complain(b"the CP file is refused");
-        complain_refusal(code);
-        return false;
-    }
-    stream::run(read.record, law, asked)
-}
-
-// Sends or receives, as asked, under the law that argument 3 names.
-fn run_stream(asked: Asked) -> bool {
-    let named = law_argument(3);
-    if let Named::Is(law) = named {
-        return stream_with(law, asked);
-    }
-    false
-}
-
-// Sends: whole frames alone where argument 4 says so.
-fn run_send() -> bool {
-    let exact = os::arg_count() == 5;
-    if exact && argument_in(4, b"exact\n") == 0 {
-        complain(b"after LAW there may be the word exact");
-        return false;
-    }
-    run_stream(Asked {
-        sends: true,
-        exact,
-        wanted: u64::MAX,
-    })
-}
-
-// Receives: so many bytes of data where argument 4 says so.
-fn run_receive() -> bool {
-    let bytes = bytes_argument(4);
-    let Bytes::Are(wanted) = bytes else {
-        complain(b"BYTES is a number of up to 18 digits");
-        return false;
-    };
-    run_stream(Asked {
-        sends: false,
-        exact: false,
-        wanted,
-    })
-}
-
-// Writes linear samples under the law that argument 2 names.
-fn run_linear() -> bool {
-    let named = law_argument(2);
-    if let Named::Is(law) = named {
-        return samples::linear(law);
-    }
-    false
-}
-
-// Whether there are so many words on the command line; says so where there are not.
-fn has(least: usize, most: usize) -> bool {
-    let count = os::arg_count();
+// Whether a command has so many words; says so where it has not.
+fn has(e: Ends, words: &[u8], least: usize, most: usize) -> bool {
+    let count = words::part_count(words, 0);
     let right = (least <= count) & (count <= most);
-    if !right {
-        complain(b"wrong number of arguments; v91 help says what there are");
+    if right {
+        return true;
     }
-    right
+    fail(
+        e,
+        b"wrong number of words; v91 help says what each command takes",
+        0,
+    )
+}
+
+// Says that there is no such command.
+fn unknown(e: Ends, words: &[u8]) -> bool {
+    fail_name(
+        e,
+        b"there is no command @; v91 help says what there are",
+        words::nth_part(words, 0, 0),
+    )
+}
+
+// The number of the command that the first word names, in the order of `run_command`.
+pub(crate) fn command_of(words: &[u8]) -> usize {
+    let names = b"cp\nsend\nreceive\nlinear\ndemo\nhelp\n--help\n-h\n--version\nrun\n";
+    words::which(names, b'\n', words::nth_part(words, 0, 0))
 }
 
 // Runs a command, and returns whether all of it was done.
-fn run(command: Command) -> bool {
+pub(crate) fn run_command(e: Ends, words: &[u8], command: usize) -> bool {
     match command {
-        Command::Cp => has(3, 3) && describe_cp(),
-        Command::Send => has(4, 5) && run_send(),
-        Command::Receive => has(4, 5) && run_receive(),
-        Command::Linear => has(3, 3) && run_linear(),
-        Command::Demo => has(2, 2) && demo::demo(),
-        Command::Help => help(),
-        Command::Version => write(b"v91 1\n"),
-        Command::Unknown => {
-            complain(b"no such command; v91 help says what there are");
-            false
-        }
+        1 => has(e, words, 2, 2) && output::cp(e, words),
+        2 => has(e, words, 3, 5) && stream::send(e, words),
+        3 => has(e, words, 3, 5) && stream::receive(e, words),
+        4 => has(e, words, 2, 3) && stream::linear(e, words),
+        5 => has(e, words, 1, 2) && output::demo(e, words),
+        6 => help(e),
+        7 => help(e),
+        8 => help(e),
+        9 => write(e, b"v91 1\n"),
+        _ => unknown(e, words),
     }
 }
 
-// Runs the command of the first argument, or says how the program is used.
-fn run_words() -> bool {
-    if os::arg_count() < 2 {
-        return help();
+// Runs the command line, or says how the program is used where it has no word.
+fn run_words(e: Ends, words: &[u8]) -> bool {
+    if words.len() == 0 {
+        return help(e);
     }
-    run(named_command())
+    let command = command_of(words);
+    if command == 10 {
+        return has(e, words, 2, 2) && script::run(e, words);
+    }
+    run_command(e, words, command)
+}
+
+// Runs the command of the command line.
+fn run_all(e: Ends) -> bool {
+    let mut text = [0u8; 16384];
+    let at = console::take_words(&mut text);
+    if 16384 <= at {
+        return fail(
+            e,
+            b"the command line is too long; its words have 16,383 bytes at most",
+            0,
+        );
+    }
+    run_words(e, &text[0..at])
 }
 
 fn main() {
-    if run_words() {
-        complain(b"ok");
+    let e = Ends {
+        input: 0,
+        output: 1,
+        said: 2,
+        shows: libc::isatty(2) == 1,
+    };
+    if run_all(e) {
+        tell(e, b"ok", 0, 0);
     } else {
-        complain(b"failed");
+        fail(e, b"failed", 0);
     }
 }

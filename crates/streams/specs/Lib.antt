@@ -1,0 +1,3 @@
+pub mod Cut
+pub mod Later
+pub mod Marks

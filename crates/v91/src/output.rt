@@ -1,0 +1,55 @@
+// What the commands write: bytes, a CP in plain words, the example.
+use crate::cp_file::load_cp;
+use console::Ends;
+use console::fail_name;
+use console::fail_system;
+use description::add_example;
+use description::add_record;
+use description::example_record;
+ghost use Prim.Native.Nat.{_≤_};
+ghost use lib.ListN.{length};
+
+// Writes bytes to the output and returns whether they all went out; says so where they did not.
+pub(crate) fn write(e: Ends, bytes: &[u8]) -> bool {
+    if io::write_all(e.output, bytes) {
+        return true;
+    }
+    fail_system(e, os::errno(), b"cannot write standard output: ", b"")
+}
+
+// Describes the CP file that word 1 names.
+pub(crate) fn cp(e: Ends, words: &[u8]) -> bool {
+    let loaded = load_cp(e, words);
+    if !loaded.found {
+        return false;
+    }
+    let mut text = [0u8; 8192];
+    let at = add_record(&mut text, 0, loaded.record, loaded.bit_count);
+    write(e, &text[0..at])
+}
+
+// Shows the example.
+fn show(e: Ends) -> bool {
+    let mut text = [0u8; 8192];
+    let at = add_example(&mut text, 0);
+    write(e, &text[0..at])
+}
+
+// Writes the CP of the example.
+fn write_cp(e: Ends) -> bool {
+    let mut bytes = [0u8; 37];
+    cp::write_cp(example_record(), &mut bytes);
+    write(e, &bytes)
+}
+
+// Shows the example, or writes its CP where word 1 is `cp`.
+pub(crate) fn demo(e: Ends, words: &[u8]) -> bool {
+    if words::part_count(words, 0) == 1 {
+        return show(e);
+    }
+    let word = words::nth_part(words, 0, 1);
+    if words::which(b"cp\n", b'\n', word) == 1 {
+        return write_cp(e);
+    }
+    fail_name(e, b"after demo there may be the word cp, not @", word)
+}

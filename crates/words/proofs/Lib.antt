@@ -1,0 +1,5 @@
+pub mod Adding
+pub mod Digits
+pub mod Pieces
+pub mod Splitting
+pub mod Turns

@@ -1,0 +1,327 @@
+"""The program v91: what `v91 run` writes to standard output for a script of commands.
+
+A command reads its input, writes to its output, which is a file or standard output, and says
+sentences, which go to standard output. Not modelled is what the stored script leaves out: the text
+of help, the order of data and sentences about marked frames on one output, and `<` or `>` without a
+command before or a file after it.
+"""
+
+import re
+
+from describe import (DOUBTFUL, counted, demo_lines, description, example_cp, read_file,
+                      refusal_sentence, shown)
+from frames import (FRESH, MOST_FRAMES, add_bits, data_bytes, frame_bits, get_bits, receive_frame,
+                    send_frame)
+from linear import linear
+from table1 import A, MU
+
+LAWS = {"mu": MU, "ulaw": MU, "a": A, "alaw": A}
+MOST_RUNS = 20
+VERSION = "v91 1"
+HELP = ("help", "--help", "-h")
+
+NO_FILE = "there is no such file"
+CP_WANTED = "give the name of a file that holds a CP; v91 demo cp > FILE writes an example"
+CLEARDOWN = ("the CP says cleardown (drn 0), so no data can be sent or received with it "
+             "(refusal 13)")
+
+
+class Failed(Exception):
+    """A command fails; the arguments are the sentences that it then says."""
+
+
+class Call:
+    """A command under way: the files there are, its input, and what it writes and says."""
+
+    def __init__(self, files, octets, written, said):
+        self.files = files
+        self.input = octets
+        self._written = written
+        self._said = said
+
+    def write(self, octets):
+        """Write to the command's output."""
+        self._written += octets
+
+    def write_lines(self, lines):
+        """Write lines of text."""
+        self.write("".join(f"{line}\n" for line in lines).encode())
+
+    def say(self, sentence):
+        """Say a sentence."""
+        self._said += f"v91: {sentence}\n".encode()
+
+
+# Words of a command
+
+def law_named(word):
+    """The law of that name."""
+    if word.lower() not in LAWS:
+        raise Failed(f"{shown(word)} is no PCM law: LAW is mu or a")
+    return LAWS[word.lower()]
+
+
+def check_options(command, words, taken):
+    """Stop unless each word is one of those taken."""
+    if not {word.lower() for word in words} <= set(taken):
+        kind = "words" if len(taken) > 1 else "word"
+        raise Failed(f"after LAW {command} takes the {kind} {' and '.join(taken)} alone")
+
+
+def bytes_wanted(words):
+    """BYTES, the last number among the words that follow LAW; None where there is none."""
+    wanted = None
+    for word in words:
+        if re.fullmatch("[0-9]{1,18}", word):
+            wanted = int(word)
+        elif word.lower() != "progress":
+            raise Failed("after LAW receive takes BYTES, a number of 1 to 18 digits, "
+                         "and the word progress alone")
+    return wanted
+
+
+def cp_in(files, name):
+    """The record of a CP file."""
+    if name == ".":
+        raise Failed(f"cannot read {name}: it is a directory, and a file is wanted", CP_WANTED)
+    if name not in files:
+        raise Failed(f"cannot open {shown(name)}: {NO_FILE}", CP_WANTED)
+    refusal, record = read_file(files[name])
+    if refusal:
+        raise Failed(refusal_sentence(shown(name), files[name], refusal))
+    return record
+
+
+# Sending
+
+def frame_count(record, data, exact):
+    """The frames that data makes: only whole ones, or the last one filled."""
+    filled = 0 if exact else frame_bits(record) - 1
+    return (8 * len(data) + filled) // frame_bits(record)
+
+
+def octets_for(record, law, count, data):
+    """The octets of so many frames of data, with zero bits behind it, from the fresh state."""
+    state, width = FRESH, frame_bits(record)
+    frames = []
+    for n in range(count):
+        octets, state = send_frame(record, law, state, get_bits(data, n * width, width))
+        frames.append(octets)
+    return b"".join(frames)
+
+
+def sent_sentence(record, count, data):
+    """What is said of frames sent."""
+    sent = f"{counted(count, 'frame')} sent"
+    filled = count * frame_bits(record) - 8 * len(data)
+    if filled > 0:
+        return f"{sent}; {counted(filled, 'zero bit')} at the end fill the last one"
+    if filled < 0:
+        return (f"{sent}; {counted(-filled, 'bit')} of data at the end fill no frame "
+                "and were not sent")
+    return sent
+
+
+def send(call, cp_name, law_name, *options):
+    """`send CPFILE LAW [exact] [progress]`."""
+    law = law_named(law_name)
+    check_options("send", options, ("exact", "progress"))
+    record = cp_in(call.files, cp_name)
+    exact = "exact" in [option.lower() for option in options]
+    count = frame_count(record, call.input, exact)
+    if count and record.drn == 0:
+        raise Failed(CLEARDOWN)
+    call.write(octets_for(record, law, count, call.input))
+    call.say(sent_sentence(record, count, call.input))
+
+
+# Receiving
+
+def octets_read(record, octets, wanted):
+    """The octets that are read: calls of 1,024 frames, as many as BYTES asks for."""
+    if wanted is None:
+        return octets
+    calls = -(-wanted // data_bytes(record, MOST_FRAMES))
+    return octets[:6 * MOST_FRAMES * calls]
+
+
+def data_and_marks(record, law, octets):
+    """(Data bits in bytes, marks) of the whole frames among octets, from the fresh state."""
+    count, width = len(octets) // 6, frame_bits(record)
+    state, data, marks = FRESH, bytearray(data_bytes(record, count)), []
+    for n in range(count):
+        mark, bits, state = receive_frame(record, law, state, octets[6 * n:6 * n + 6])
+        add_bits(data, n * width, width, bits)
+        marks.append(mark)
+    return bytes(data), marks
+
+
+def runs_of(marks):
+    """The runs of frames with one and the same mark: (mark, first frame, last frame)."""
+    runs = []
+    for frame, mark in enumerate(marks):
+        if runs and runs[-1][0] == mark:
+            runs[-1] = (mark, runs[-1][1], frame)
+        else:
+            runs.append((mark, frame, frame))
+    return runs
+
+
+def run_sentence(mark, first, last, good_follows):
+    """What is said of a run of marked frames."""
+    where = f"frame {first}" if first == last else f"frames {first} to {last}"
+    what = ("the number R is 2^K or more" if mark == 7
+            else f"interval {mark - 1} outside its mask")
+    doubt = f"; the {DOUBTFUL} bits after that are doubtful" if good_follows else ""
+    return f"{where}: {what}{doubt}"
+
+
+def run_sentences(marks):
+    """What is said of each run of marked frames."""
+    return [run_sentence(mark, first, last, marks[last + 1:last + 2] == [0])
+            for mark, first, last in runs_of(marks) if mark]
+
+
+def doubtful_bits(marks, width):
+    """How many bits of good frames are among the 24 after a marked frame."""
+    total = left = 0
+    for mark in marks:
+        if mark:
+            left = DOUBTFUL
+        else:
+            total += min(width, left)
+            left = max(left - width, 0)
+    return total
+
+
+def received_sentence(marks):
+    """What is said of frames received."""
+    marked = sum(mark > 0 for mark in marks)
+    return f"{counted(len(marks), 'frame')} received, {marked} of them marked"
+
+
+def say_reception(call, record, marks, left_over):
+    """Say what was received, but for the runs of marked frames that were said before."""
+    more = len(run_sentences(marks)) - MOST_RUNS
+    doubtful = doubtful_bits(marks, frame_bits(record))
+    if more > 0:
+        call.say(f"{counted(more, 'more run')} of marked frames")
+    call.say(received_sentence(marks))
+    if doubtful:
+        call.say(f"{counted(doubtful, 'bit')} after marked frames are doubtful")
+    if left_over:
+        call.say(f"{counted(left_over, 'octet')} at the end make no frame")
+
+
+def receive(call, cp_name, law_name, *options):
+    """`receive CPFILE LAW [BYTES] [progress]`."""
+    law, wanted = law_named(law_name), bytes_wanted(options)
+    record = cp_in(call.files, cp_name)
+    octets = octets_read(record, call.input, wanted)
+    count, left_over = divmod(len(octets), 6)
+    if count and record.drn == 0:
+        raise Failed(received_sentence([]), CLEARDOWN)
+    data, marks = data_and_marks(record, law, octets)
+    whole, rest = divmod(count * frame_bits(record), 8)
+    for sentence in run_sentences(marks)[:MOST_RUNS]:
+        call.say(sentence)
+    call.write(data[:wanted])
+    say_reception(call, record, marks, left_over)
+    if data[whole:wanted]:
+        call.say(f"{counted(rest, 'bit')} of data in the last byte")
+    if wanted is not None and len(data) < wanted:
+        raise Failed(f"the input ended {counted(wanted - len(data), 'byte')} of data too early")
+
+
+# The other commands
+
+def tell_cp(call, name):
+    """`cp FILE`."""
+    call.write_lines(description(cp_in(call.files, name)))
+
+
+def tell_linear(call, law_name, *options):
+    """`linear LAW [progress]`."""
+    law = law_named(law_name)
+    check_options("linear", options, ("progress",))
+    call.write_lines(linear(law, call.input, [0] * len(call.input))[1])
+
+
+def demo(call, *words):
+    """`demo` and `demo cp`."""
+    if not words:
+        call.write_lines(demo_lines())
+    elif words[0].lower() == "cp":
+        call.write(example_cp())
+    else:
+        raise Failed(f"after demo there may be the word cp, not {shown(words[0])}")
+
+
+def tell_version(call):
+    """`--version`."""
+    call.write_lines([VERSION])
+
+
+# Each command with the least and the most words after it.
+COMMANDS = {"cp": (tell_cp, 1, 1), "send": (send, 2, 4), "receive": (receive, 2, 4),
+            "linear": (tell_linear, 1, 2), "demo": (demo, 0, 1), "--version": (tell_version, 0, 0)}
+
+
+# The script
+
+def lines_of(script):
+    """The lines of a script; the last may lack its newline."""
+    *lines, last = script.split("\n")
+    return lines + [last] if last else lines
+
+
+def words_of(line):
+    """The words of a line, which spaces separate."""
+    return [word for word in line.split(" ") if word]
+
+
+def parts_of(words):
+    """(Words of the command, {'<' or '>': file})."""
+    end = next((n for n, word in enumerate(words) if word in ("<", ">")), len(words))
+    return words[:end], dict(zip(words[end::2], words[end + 1::2]))
+
+
+def carry_out(call, name, *words):
+    """Carry out one command."""
+    if name.lower() in HELP:
+        raise NotImplementedError("the text of help is not modelled")
+    if name.lower() not in COMMANDS:
+        raise Failed(f"there is no command {shown(name)}; v91 help says what there are")
+    command, least, most = COMMANDS[name.lower()]
+    if not least <= len(words) <= most:
+        raise Failed("wrong number of words; v91 help says what each command takes")
+    command(call, *words)
+
+
+def run_command(files, words, output):
+    """Run a command with its input and output, and say whether it succeeded."""
+    command, ports = parts_of(words)
+    source, target = ports.get("<"), ports.get(">")
+    written = output if target is None else bytearray()
+    call = Call(files, files.get(source, b""), written, output)
+    try:
+        if source is not None and source not in files:
+            raise Failed(f"cannot open {shown(source)}: {NO_FILE}")
+        carry_out(call, *command)
+        call.say("ok")
+    except Failed as failure:
+        for sentence in (*failure.args, "failed"):
+            call.say(sentence)
+    if target is not None:
+        files[target] = bytes(written)
+
+
+def transcript(files, script):
+    """What `v91 run` writes to standard output; the files that commands write go into `files`."""
+    output = bytearray()
+    for line in lines_of(script):
+        output += f"{line}\n".encode()
+        words = words_of(line)
+        if words and not line.startswith("#"):
+            run_command(files, words, output)
+    return bytes(output)

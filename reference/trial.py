@@ -1,0 +1,375 @@
+"""The stored run of the program v91: the data files and the script that reads them."""
+
+from cases_cp import ALL_FULL, body, in_bytes, noisy, plain, sealed
+from cases_frames import a_frame, possible_marks
+from cp import ONE_AT
+from frames import data_bytes, interval_masks, ucodes_for
+from program import data_and_marks, octets_for
+from record import EMPTY, EXAMPLE, FULL_MASK, make
+from samples import Draw, a_record
+from table1 import A, MU, octet_of
+
+ARGUMENTS = "run\ntrial\n"
+NAME = "trial"
+
+
+def ucodes(*runs):
+    """A mask of runs of Ucodes, each a Ucode or (first, last)."""
+    mask = 0
+    for run in runs:
+        first, last = run if isinstance(run, tuple) else (run, run)
+        mask |= (1 << last + 1) - (1 << first)
+    return mask
+
+
+# CP files
+
+# Masks with gaps, one with a single Ucode and an empty one that no interval names.
+GAPS = make(0, 5, 1, [0, 1, 3, 1, 1, 1],
+            [ucodes(0, 4, (6, 12)), ucodes((20, 31), 33, (63, 64), 127), 0, ucodes(7)])
+
+# Under SEVEN a frame has the Ucode 6 in interval 5 where R is below 6^5, and under the example such
+# a frame has mark 6; it has the Ucode 0 in interval 0 where R mod 6 is 5, and under LACKING such a
+# frame has mark 1. All other frames sent under SEVEN are good under the example and LACKING.
+SEVEN = make(0, 1, 0, [0, 0, 0, 0, 0, 1], [ucodes((0, 5)), ucodes((0, 6))])
+LACKING = make(0, 1, 0, [1, 0, 0, 0, 0, 2], [ucodes((0, 5)), ucodes((1, 5)), ucodes((0, 6))])
+
+UPPER = a_record(Draw(31), 3, 4, most=12)
+FEW = make(0, 5, 0, [0] * 6, [ucodes((0, 5))])
+HOLLOW = make(0, 5, 0, [0, 0, 1, 0, 0, 0], [FULL_MASK])
+BAD_INDEX = make(0, 1, 0, [0, 1, 6, 0, 0, 0], [ucodes((0, 5))])
+
+
+def good_cps():
+    """CP files that are read, one of each length among them."""
+    return {
+        "example.cp": plain(EXAMPLE),
+        "noisy.cp": noisy(Draw(32), EXAMPLE),
+        "third.cp": plain(make(0, 2, 1, [0] * 6, [ucodes((0, 6))])),
+        "cleardown.cp": plain(EMPTY),
+        "seven.cp": plain(SEVEN),
+        "lacking.cp": plain(LACKING),
+        "gaps.cp": plain(GAPS),
+        "upper.cp": plain(UPPER),
+        "full.cp": plain(ALL_FULL),
+    }
+
+
+def short(bits):
+    """A sequence with one mask and its CRC."""
+    return in_bytes(sealed(bits, 0), 0)
+
+
+def refused_cps():
+    """CP files that are refused, each refusal by a file of its own."""
+    example = body(EXAMPLE)
+    return {
+        "empty.cp": b"",
+        "byte.cp": plain(EXAMPLE)[:1],
+        "short.cp": plain(EXAMPLE)[:36],
+        "sync.cp": short(example ^ 1 << 9),
+        "index.cp": short(body(BAD_INDEX)),
+        "length.cp": plain(EXAMPLE) + bytes(17),
+        "cut.cp": plain(SEVEN)[:37],
+        "longer.cp": plain(ALL_FULL) + bytes(1),
+        "start.cp": short(example | 1 << 51),
+        "crc.cp": in_bytes(sealed(example, 0, spoil=1), 0),
+        "bit19.cp": short(example ^ 1 << ONE_AT),
+        "bit128.cp": short(example | 1 << 128),
+        "rate.cp": plain(make(0, 29, 0, [0] * 6, [FULL_MASK])),
+        "granted.cp": plain(make(1, 5, 0, [0] * 6, [FULL_MASK])),
+        "few.cp": plain(FEW),
+        "hollow.cp": plain(HOLLOW),
+    }
+
+
+# Data to be sent
+
+def messages():
+    """Texts. A frame of the example has 21 bits, so `whole` has no bit too few or too many."""
+    return {
+        "nothing": b"",
+        "newline": b"\n",
+        "hello": b"Hello from the card\n",
+        "whole": b"This fills 8 frames.\n",
+        "spare": b"One bit more\n",
+        "eight": b"8 bytes\n",
+        "two": b"The first line\nand the second\n",
+        "verse": b"".join(b"line %02d of more than 1024 frames of 21\n" % n for n in range(72)),
+    }
+
+
+def r_of_joined(n):
+    """R of a frame of `joined`, by the frames that are to be marked.
+
+    Calls end after frame 1023. Under the example one run of marks goes across that, and there is
+    one run more than are said; under LACKING a run ends just there.
+    """
+    of_example = n < 1020 and n % 60 == 1 or n in (*range(1020, 1028), 1030, 1032, 1033, 1039)
+    of_lacking = n in (0, 500, 1022, 1023, 1025, 1026)
+    return (0 if of_example else 6**5) + 6 * (n * n % 997) + (5 if of_lacking else n % 5)
+
+
+def joined():
+    """Data for 1,040 frames under SEVEN whose R is as above."""
+    frames = [ucodes_for(interval_masks(SEVEN), r_of_joined(n)) for n in range(1040)]
+    line = bytes(octet_of(MU, ucode & 1, ucode) for frame in frames for ucode in frame)
+    return data_and_marks(SEVEN, MU, line)[0]
+
+
+# Octets to be received
+
+# Marks of the frames of `damaged`: runs of one frame and of more, marks side by side, good frames
+# with fewer bits than are doubtful, and a run at the end.
+DAMAGED = (0, 0, 3, 0, 0, 7, 7, 7, 0, 1, 2, 2, 0, 0, 0, 6, 0, 4, 5, 7, 7, 0, 0, 3, 3)
+
+
+def damaged(draw, record, law, marks):
+    """Frames of data at random of which some are replaced so that they get these marks."""
+    data = draw.octets(data_bytes(record, len(marks)))
+    line = octets_for(record, law, len(marks), data)
+    return b"".join(a_frame(draw, record, law, mark) if mark else line[6 * n:6 * n + 6]
+                    for n, mark in enumerate(marks))
+
+
+def many_marks(draw, record):
+    """Marks of all kinds for 60 frames, which make more runs than are said."""
+    marks = possible_marks(record)
+    return [draw.pick((0, 0, *marks)) for _ in range(60)]
+
+
+def lines_of_octets():
+    """Octets: damaged frames, and some that make no frame."""
+    draw = Draw(33)
+    hello = messages()["hello"]
+    return {
+        "damaged": damaged(draw, EXAMPLE, MU, DAMAGED),
+        "many": damaged(draw, GAPS, A, many_marks(draw, GAPS)) + draw.octets(2),
+        "ragged": octets_for(EXAMPLE, A, 8, hello) + draw.octets(1),
+        "five": draw.octets(5),
+        "every": bytes(range(256)),
+    }
+
+
+def data_files():
+    """The files that the script reads: {name: bytes}."""
+    return {**good_cps(), **refused_cps(), **messages(), "joined": joined(), **lines_of_octets()}
+
+
+# The script
+
+SCRIPT = """\
+# CP in words: each length, each kind of rate, cleardown, masks with gaps and full ones
+cp example.cp
+cp noisy.cp
+cp third.cp
+cp cleardown.cp
+cp seven.cp
+cp lacking.cp
+cp gaps.cp
+cp upper.cp
+cp full.cp
+
+# CP files that are refused
+cp empty.cp
+cp byte.cp
+cp short.cp
+cp hello
+cp sync.cp
+cp verse
+cp index.cp
+cp length.cp
+cp cut.cp
+cp longer.cp
+cp start.cp
+cp crc.cp
+cp bit19.cp
+cp bit128.cp
+cp rate.cp
+cp granted.cp
+cp few.cp
+cp hollow.cp
+send crc.cp mu < hello > none
+receive hollow.cp a < five > none
+
+# Files that are not there, and a directory
+cp missing.cp
+cp bad\tname.cp
+cp bad\x7fname.cp
+cp .
+send missing.cp mu < hello > none
+receive . a < five > none
+linear mu < nowhere
+send example.cp mu < nowhere
+receive example.cp mu 20 < no\twhere
+
+# Wrong words; the law is looked at first, then the words after it, then the CP file
+cp
+cp example.cp seven.cp
+send
+send example.cp
+send example.cp mu exact progress exact
+send example.cp xlaw
+send missing.cp m\tu
+send missing.cp xlaw 12
+send missing.cp mu 12
+send example.cp mu exact faster
+receive example.cp
+receive example.cp mu 1 2 3
+receive example.cp xlaw
+receive missing.cp b 20
+receive missing.cp mu exact
+receive example.cp mu 20 bytes
+receive example.cp mu 12x
+receive example.cp mu -1
+receive example.cp mu 1234567890123456789
+linear
+linear mu progress progress
+linear xlaw
+linear mu exact
+demo cp cp
+demo words
+demo w\to
+nonsense words
+NONSENSE
+non\tsense
+run trial
+
+# Capitals, several spaces, and a line of spaces alone
+\x20\x20\x20
+  CP   third.cp
+SEND example.cp ULAW EXACT < hello > octets
+RECEIVE example.cp MU < octets > back
+LINEAR ALAW < eight
+LINEAR A < eight
+
+# Sending: bits that fill the last frame, and bits that are not sent
+send example.cp mu < nothing > octets
+send example.cp mu < newline > octets
+send example.cp mu < hello > octets
+send example.cp mu < whole > octets
+send example.cp mu < spare > octets
+send example.cp mu exact < nothing > octets
+send example.cp mu exact < newline > octets
+send example.cp mu exact < hello > octets
+send example.cp mu exact < whole > octets
+send example.cp mu exact < eight > octets
+
+# Sent and received under each law and several CPs; the octets and the data as A-law values
+send example.cp mu < hello > octets
+linear a < octets
+receive example.cp mu 20 < octets
+receive noisy.cp ulaw 20 < octets
+send example.cp a < hello > octets
+linear a < octets
+receive example.cp alaw 20 < octets
+send third.cp a < hello > octets
+receive third.cp a 20 < octets
+send gaps.cp mu < hello > octets
+linear a < octets
+receive gaps.cp mu 20 < octets
+send upper.cp alaw < hello > octets
+receive upper.cp a 20 < octets
+send full.cp ulaw < hello > octets
+linear a < octets
+receive full.cp mu 20 > back < octets
+linear a < back
+
+# BYTES: fewer than there are, none, more, and the last number given
+send example.cp mu < two > octets
+receive example.cp mu 15 < octets
+receive example.cp mu 30 < octets
+receive example.cp mu 000000000000000030 < octets
+receive example.cp mu 7 15 < octets
+receive example.cp mu 0 < octets
+receive example.cp mu 31 < octets > back
+receive example.cp mu 32 < octets > back
+receive example.cp mu 33 < octets > back
+receive example.cp mu 40 < octets > back
+receive example.cp mu 999999999999999999 < octets > back
+linear a < back
+
+# A last byte that is not full: wanted, not wanted, and one byte of it alone
+send example.cp mu < newline > octets
+receive example.cp mu 1 < octets
+receive example.cp mu < octets > back
+linear a < back
+receive example.cp mu 2 < octets > back
+linear a < back
+receive example.cp mu 3 < octets > back
+linear a < back
+receive example.cp mu 4 < octets > back
+linear a < back
+send example.cp mu < spare > octets
+receive example.cp mu < octets > back
+receive example.cp mu 13 < octets
+
+# Octets at the end that make no frame
+receive example.cp a 20 < ragged
+receive example.cp a < ragged > back
+receive example.cp a < five > back
+receive example.cp a 1 < five > back
+receive example.cp a < nothing > back
+receive example.cp a 2 < nothing > back
+
+# Marked frames
+receive example.cp mu < damaged > back
+linear a < back
+receive example.cp mu 60 < damaged > back
+receive example.cp mu 70 < damaged > back
+receive gaps.cp a < many > back
+linear a < back
+send example.cp mu < hello > octets
+receive example.cp a < octets > back
+receive third.cp mu < octets > back
+receive full.cp mu < damaged > back
+linear a < back
+
+# More frames than a call takes: state, runs of marks and doubtful bits go on in the next call
+send example.cp mu < verse > octets
+receive example.cp mu 2808 < octets > back
+send gaps.cp a < back > octets
+receive gaps.cp a 2808 < octets
+send seven.cp mu exact < joined > octets
+receive seven.cp mu 2730 < octets > back
+receive seven.cp a < octets > none
+send seven.cp mu exact < back > octets
+receive example.cp mu < octets > none
+receive lacking.cp mu 2730 < octets > back
+
+# The data just received, sent on: the marks that its frames get tell one data from another
+send seven.cp mu exact < back > octets
+receive example.cp mu < octets > none
+
+# Cleardown
+send cleardown.cp mu < nothing > octets
+send cleardown.cp mu < hello > none
+receive cleardown.cp mu < nothing > back
+receive cleardown.cp mu < five > back
+receive cleardown.cp mu < damaged > none
+
+# Linear values
+linear mu < every
+linear a < every
+linear mu < nothing
+
+# The demo, its CP, and outputs in files that are written anew
+demo
+demo cp > made.cp
+cp made.cp
+send made.cp mu < hello > octets
+receive made.cp mu 20 < octets
+--version
+--version > made.cp
+linear a < made.cp
+cp made.cp
+cp example.cp > octets
+demo > octets
+
+# The word progress, with few octets
+send example.cp mu progress exact < hello > octets
+send example.cp mu PROGRESS < hello > octets
+receive example.cp mu 20 progress < octets
+receive example.cp mu progress < octets > back
+linear mu progress < eight
+"""
