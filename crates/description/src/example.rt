@@ -56,11 +56,12 @@ fn add_cp(text: &mut [u8], at: usize) -> usize
     add_record(text, at, read.record, written.bit_count)
 }
 
-// Adds three frames of octets.
-fn add_octets(text: &mut [u8], at: usize, octets: &[u8]) -> usize
+// Adds a title and three frames of octets.
+fn add_octets(text: &mut [u8], at: usize, title: &[u8], octets: &[u8]) -> usize
     requires { ⌜ (at ≤ length (now text)) × (length (now octets) ≡ 18) ⌝ }
     ensures { λ end. ⌜ end ≤ length (now (text .entry)) ⌝ }
 {
+    let at = add_numbers(text, at, title, 0, 0, 0);
     let at = add_hex(text, at, &octets[0..6]);
     let at = add_hex(text, at, &octets[6..12]);
     add_hex(text, at, &octets[12..18])
@@ -90,10 +91,11 @@ fn add_bits(text: &mut [u8], at: usize, bytes: &[u8], marks: &[u8]) -> usize
     )
 }
 
-// Adds three frames of octets, and what is received of them; `bytes` and `marks` then hold it.
+// Adds a title, three frames of octets and what is received of them; `bytes` and `marks` then hold it.
 fn add_received(
     text: &mut [u8],
     at: usize,
+    title: &[u8],
     octets: &[u8],
     bytes: &mut [u8],
     marks: &mut [u8],
@@ -101,7 +103,7 @@ fn add_received(
     requires { ⌜ (at ≤ length (now text)) × (length (now octets) ≡ 18) × (length (now bytes) ≡ 8) × (length (now marks) ≡ 3) ⌝ }
     ensures { λ end. ⌜ end ≤ length (now (text .entry)) ⌝ }
 {
-    let at = add_octets(text, at, octets);
+    let at = add_octets(text, at, title, octets);
     codec::receive(
         example_record(),
         Law::Mu,
@@ -126,15 +128,14 @@ fn add_good(
     requires { ⌜ (at ≤ length (now text)) × (length (now octets) ≡ 18) × (length (now bytes) ≡ 8) × (length (now marks) ≡ 3) ⌝ }
     ensures { λ end. ⌜ end ≤ length (now (text .entry)) ⌝ }
 {
-    let at = add_numbers(
+    let at = add_received(
         text,
         at,
         b"63 one bits, sent in 3 frames of six PCM octets each, mu-law:\n ",
-        0,
-        0,
-        0,
+        octets,
+        bytes,
+        marks,
     );
-    let at = add_received(text, at, octets, bytes, marks);
     let wrong = streams::differing(sent, bytes, 0, 63) as u64;
     add_choice(
         text,
@@ -187,24 +188,23 @@ fn damage(octets: &mut [u8])
 fn add_damaged(
     text: &mut [u8],
     at: usize,
-    octets: &mut [u8],
     sent: &[u8],
+    octets: &mut [u8],
     bytes: &mut [u8],
     marks: &mut [u8],
 ) -> usize
     requires { ⌜ (at ≤ length (now text)) × (length (now octets) ≡ 18) × (length (now bytes) ≡ 8) × (length (now marks) ≡ 3) ⌝ }
     ensures { λ end. ⌜ end ≤ length (now (text .entry)) ⌝ }
 {
-    let at = add_numbers(
+    damage(octets);
+    let at = add_received(
         text,
         at,
         b"The same, but the third octet comes in as 80 (Ucode 127, which is in no mask):\n ",
-        0,
-        0,
-        0,
+        octets,
+        bytes,
+        marks,
     );
-    damage(octets);
-    let at = add_received(text, at, octets, bytes, marks);
     add_doubt(text, at, sent, bytes, marks[0])
 }
 
@@ -228,7 +228,7 @@ fn add_run(text: &mut [u8], at: usize) -> usize
     let at = add_good(text, at, &octets, &sent, &mut bytes, &mut marks);
     let mut bytes = [0u8; 8];
     let mut marks = [0u8; 3];
-    add_damaged(text, at, &mut octets, &sent, &mut bytes, &mut marks)
+    add_damaged(text, at, &sent, &mut octets, &mut bytes, &mut marks)
 }
 
 // Adds the example.

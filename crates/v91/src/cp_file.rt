@@ -32,83 +32,43 @@ fn bytes_for(g: u8) -> u64 {
     layout::byte_count(g as usize) as u64
 }
 
-// The choice of `say_refused` for a refusal, and the first of the numbers that it tells.
-struct Choice {
-    sentence: usize,
-    first: usize,
-}
-
-// The choice for a refusal of a file of so many bytes.
-fn choice_of(number: u32, count: usize) -> Choice
-    ensures { λ x. ⌜ x .first ≤ 6 ⌝ }
-{
+// The choice of `say_refused` for a refusal of a file of so many bytes.
+fn sentence_of(number: u32, count: usize) -> usize {
     if count == 0 {
-        return Choice {
-            sentence: 0,
-            first: 6,
-        };
+        return 0;
+    }
+    if (number == 5) & (count == 4096) {
+        return 1;
     }
     match number {
-        2 => Choice {
-            sentence: 1,
-            first: 0,
-        },
-        3 => Choice {
-            sentence: 2,
-            first: 6,
-        },
-        4 => Choice {
-            sentence: 3,
-            first: 1,
-        },
-        5 => Choice {
-            sentence: 4,
-            first: 0,
-        },
-        6 => Choice {
-            sentence: 5,
-            first: 6,
-        },
-        7 => Choice {
-            sentence: 6,
-            first: 6,
-        },
-        8 => Choice {
-            sentence: 7,
-            first: 6,
-        },
-        9 => Choice {
-            sentence: 8,
-            first: 4,
-        },
-        10 => Choice {
-            sentence: 9,
-            first: 4,
-        },
-        11 => Choice {
-            sentence: 10,
-            first: 4,
-        },
-        25 => Choice {
-            sentence: 11,
-            first: 3,
-        },
-        _ => Choice {
-            sentence: 12,
-            first: 6,
-        },
+        2..=11 => number as usize,
+        25 => 12,
+        _ => 13,
+    }
+}
+
+// The first of the numbers that it tells.
+fn first_of(number: u32) -> usize
+    ensures { λ x. ⌜ x ≤ 6 ⌝ }
+{
+    match number {
+        2 | 5 => 0,
+        4 => 1,
+        25 => 3,
+        9..=11 => 4,
+        _ => 6,
     }
 }
 
 // Says what a CP file is refused for: what was found, and what a CP has. The numbers that can be told are the bytes of the file, the largest
 // index, the bytes of a CP with that, the interval of refusal 25, drn and K.
-fn say_refused(e: Ends, name: &[u8], choice: Choice, values: &[u64])
-    requires { ⌜ (choice .first ≤ 6) × (length (now values) ≡ 6) ⌝ }
+fn say_refused(e: Ends, name: &[u8], sentence: usize, first: usize, values: &[u64])
+    requires { ⌜ (first ≤ 6) × (length (now values) ≡ 6) ⌝ }
 {
-    let first = choice.first;
     fail_choice(
         e,
         b"@ is empty; a CP has 37, 54, 71, 88, 105 or 122 bytes (refusal 2)|\
+        @ has # bytes or more; a CP whose largest interval index is # has # (refusal 5)|\
         @ has # byte~; a CP has 37, 54, 71, 88, 105 or 122 (refusal 2)|\
         @ is no CP: it does not begin with 17 one bits (refusal 3)|\
         @ has the interval index #; each is 5 at most (refusal 4)|\
@@ -121,7 +81,7 @@ fn say_refused(e: Ends, name: &[u8], choice: Choice, values: &[u64])
         @ has too few points for drn #: M0 x M1 x M2 x M3 x M4 x M5 is below 2^# (refusal 11)|\
         @ has no point in interval #: its mask is empty, and drn # needs points in each (refusal 25)|\
         @ is refused|",
-        choice.sentence,
+        sentence,
         &values[first..6],
         name,
     );
@@ -131,11 +91,12 @@ fn say_refused(e: Ends, name: &[u8], choice: Choice, values: &[u64])
 fn refuse(e: Ends, name: &[u8], r: Record, count: usize, code: u32) {
     let g = largest_index(r);
     let interval = code / 0x100_0000;
-    let choice = choice_of(code % 256, count);
+    let number = code % 256;
     say_refused(
         e,
         name,
-        choice,
+        sentence_of(number, count),
+        first_of(number),
         &[
             count as u64,
             g as u64,
