@@ -81,6 +81,11 @@ def length_sentence(name, octets):
     return f"{name} has {counted(len(octets), 'byte')}; a CP has {lengths}"
 
 
+def file_length(octets):
+    """A file's length; no more than its first 4,096 bytes are read."""
+    return counted(len(octets), "byte") if len(octets) < 4096 else "4096 bytes or more"
+
+
 def refusal_sentence(name, octets, refusal):
     """What is said of a file that is refused; its numbers are those in its bits."""
     found = record_in(int.from_bytes(octets, "little"))
@@ -89,7 +94,7 @@ def refusal_sentence(name, octets, refusal):
         2: length_sentence(name, octets),
         3: f"{name} is no CP: it does not begin with 17 one bits",
         4: f"{name} has the interval index {g}; each is 5 at most",
-        5: f"{name} has {counted(len(octets), 'byte')}; a CP whose largest interval index is {g} "
+        5: f"{name} has {file_length(octets)}; a CP whose largest interval index is {g} "
            f"has {(length(g) + 7) // 8}",
         6: f"{name} is damaged: a start bit is 1, and each is 0 in a CP",
         7: f"{name} is damaged: its CRC does not match its bits",

@@ -72,6 +72,7 @@ def refused_cps():
         "length.cp": plain(EXAMPLE) + bytes(17),
         "cut.cp": plain(SEVEN)[:37],
         "longer.cp": plain(ALL_FULL) + bytes(1),
+        "longest.cp": plain(EXAMPLE) + bytes(4200),
         "start.cp": short(example | 1 << 51),
         "crc.cp": in_bytes(sealed(example, 0, spoil=1), 0),
         "bit19.cp": short(example ^ 1 << ONE_AT),
@@ -181,6 +182,7 @@ cp index.cp
 cp length.cp
 cp cut.cp
 cp longer.cp
+cp longest.cp
 cp start.cp
 cp crc.cp
 cp bit19.cp
