@@ -29,7 +29,8 @@ fn take_word(text: &mut [u8], at: usize, i: usize) -> usize
     end + 1
 }
 
-// Puts the words of the command line into the text, a 0 behind each, and returns the place after them; the text's end where there is no room.
+// Puts the words of the command line into the text, a 0 behind each, and returns the place after them; the text's end where there is no
+// room.
 pub fn take_words(text: &mut [u8]) -> usize
     ensures { λ end. ⌜ end ≤ length (now (text .entry)) ⌝ }
 {

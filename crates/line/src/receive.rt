@@ -25,8 +25,8 @@ ghost use mathlib.Core.Path.{_≡_};
 ghost use Prim.Native.Nat.{_*_, _<_, _≤_};
 ghost use lib.ListN.{length};
 
-// What is known and told of the frames so far: what their marks come to, how many runs of marked frames were told and how many were not, and
-// how far the stream is.
+// What is known and told of the frames so far: what their marks come to, how many runs of marked frames were told and how many were not,
+// and how far the stream is.
 struct Told {
     report: Report,
     told: u64,

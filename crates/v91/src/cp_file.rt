@@ -60,8 +60,8 @@ fn first_of(number: u32) -> usize
     }
 }
 
-// Says what a CP file is refused for: what was found, and what a CP has. The numbers that can be told are the bytes of the file, the largest
-// index, the bytes of a CP with that, the interval of refusal 25, drn and K.
+// Says what a CP file is refused for: what was found, and what a CP has. The numbers that can be told are the bytes of the file, the
+// largest index, the bytes of a CP with that, the interval of refusal 25, drn and K.
 fn say_refused(e: Ends, name: &[u8], sentence: usize, first: usize, values: &[u64])
     requires { ⌜ (first ≤ 6) × (length (now values) ≡ 6) ⌝ }
 {

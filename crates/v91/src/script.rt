@@ -8,7 +8,7 @@ use console::fail;
 use console::fail_name;
 use console::fail_system;
 use console::tell;
-ghost use Prim.Native.Nat.{_≤_};
+ghost use Prim.Native.Nat.{_<_, _≤_};
 ghost use lib.ListN.{length};
 
 // Puts a character of a line into `words` at place `at`, and returns the place after it; for a space a 0, where a character stands before.
@@ -148,6 +148,21 @@ fn run_lines(e: Ends, text: &[u8]) -> bool {
     done
 }
 
+// Puts a newline behind the first n characters of a text, where the last of them is none, and returns how many there are then.
+fn end_line(text: &mut [u8], n: usize) -> usize
+    requires { ⌜ n < length (now text) ⌝ }
+    ensures { λ end. ⌜ end ≤ length (now (text .entry)) ⌝ }
+{
+    if n == 0 {
+        return 0;
+    }
+    if text[n - 1] == b'\n' {
+        return n;
+    }
+    text[n] = b'\n';
+    n + 1
+}
+
 // Runs the commands of the file that word 1 names.
 pub(crate) fn run(e: Ends, words: &[u8]) -> bool {
     let word = words::nth_part(words, 0, 1);
@@ -170,5 +185,6 @@ pub(crate) fn run(e: Ends, words: &[u8]) -> bool {
         said: e.output,
         shows: false,
     };
-    run_lines(kept, &text[0..n])
+    let end = end_line(&mut text, n);
+    run_lines(kept, &text[0..end])
 }

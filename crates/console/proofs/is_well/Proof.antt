@@ -23,4 +23,5 @@ returns-4 c = sym (ap isWell (c .enum-told4 .given .1))
 
 pub is-well-spec : {M : Type 1} → statement M
 is-well-spec =
-    tie.close (tie.spec (λ c. search needs) (λ c. search needs) (λ c. search needs) (λ c. search needs) returns returns-2 returns-3 returns-4)
+    tie.close (tie.spec (λ c. search needs) (λ c. search needs) (λ c. search needs) (λ c. search needs) returns returns-2
+    returns-3 returns-4)
