@@ -39,7 +39,7 @@ fn line_fault(r: Record, state: LineState, frames: usize) -> Outcome
 fn call_fault(r: Record, state: LineState, frames: usize) -> Outcome
     ensures { λ x. ⌜ outcomeAnswer x ≡ first (recordTests r ++ lineTests r state frames) ⌝ }
 {
-    let fault = constellation::record_fault(r);
+    let fault = faults::record_fault(r);
     if let Outcome::Refused(_) = fault {
         return fault;
     }

@@ -6,8 +6,8 @@ use Rattle.standard.specs.Refusals.{outcomeAnswer}
 use Rattle.standard.specs.Calls.{readRefusal}
 use Rattle.standard.specs.declared.Record.{Record}
 use Rattle.standard.specs.Calls.{readCall}
-use Rattle.cp.specs.Stages.{contentTests}
-use Rattle.cp.proofs.Reading.{read-refused, read-accepted, refused-shape, past-shape}
+use Rattle.cp_faults.specs.Stages.{contentTests}
+use Rattle.cp_faults.proofs.Reading.{read-refused, read-accepted, refused-shape, past-shape}
 use borrow.Author.Needs.{needs}
 use Rattle.cp.proofs.read_cp.Statement.{statement}
 use Rattle.cp.proofs.read_cp.Tie as tie
