@@ -1,4 +1,2 @@
-pub mod Buffers
-pub mod Loops
 pub mod Faults
 pub mod Entries

@@ -12,8 +12,8 @@ use Rattle.standard.specs.declared.LineState.{LineState}
 use Rattle.standard.specs.declared.Record.{Record}
 use Rattle.mapping.specs.declared.Mapping.{Mapping}
 use Rattle.mapping.specs.Tables.{mappingOf}
-use Rattle.codec.specs.Allowed.{Allowed}
-use Rattle.codec.specs.Buffers.{bitsOver}
+use Rattle.frames.specs.Allowed.{Allowed}
+use Rattle.frames.specs.Buffers.{bitsOver}
 
 -- the record r allows a call of N frames from the state st, and width, m and the tables ts are drawn up of it
 pub record Drawn (tables : Record → List (List ℕ)) (r : Record) (st : LineState) (N width : ℕ) (m : Mapping)

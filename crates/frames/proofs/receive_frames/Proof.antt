@@ -14,10 +14,10 @@ use Rattle.bits.specs.PutField.{putField, Holds, poured}
 use Rattle.bits.proofs.Joining.{poured-none, length-poured, pours, poured-out}
 use Rattle.mapping.specs.Tables.{labelTables}
 use Rattle.frame.specs.Parts.{stateOf, Receivable}
-use Rattle.codec.specs.Loops.{Drawn, Receiving}
-use Rattle.codec.proofs.Loops.{receive-start, receivable, receive-more, receive-all, few-bits, six-long, bits-room, word-fits}
-use Rattle.codec.proofs.receive_frames.Statement.{statement}
-use Rattle.codec.proofs.receive_frames.Tie as tie
+use Rattle.frames.specs.Loops.{Drawn, Receiving}
+use Rattle.frames.proofs.Loops.{receive-start, receivable, receive-more, receive-all, few-bits, six-long, bits-room, word-fits}
+use Rattle.frames.proofs.receive_frames.Statement.{statement}
+use Rattle.frames.proofs.receive_frames.Tie as tie
 
 abbrev Inv-loop : tie.InvT-loop
 Inv-loop law frames octets bytes₀ marks₀ labels mapping width line₀ pouring₀ n₀ bytes marks line pouring n =

@@ -28,9 +28,9 @@ use Rattle.mapping.specs.Tables.{pointTables, labelTables}
 use Rattle.frame.specs.declared.Carried.{Carried}
 use Rattle.coding.specs.Reciprocals.{reciprocalOf}
 use Rattle.frame.specs.Parts.{Sendable, Receivable}
-use Rattle.codec.specs.Buffers.{bitsOver}
-use Rattle.codec.specs.Loops.{Drawn, Sending, Receiving}
-use Rattle.codec.proofs.Buffers.{frame-bits, frame-octets, front-more, bitsOver-none, bitsOver-more, bitsOver-bytes}
+use Rattle.frames.specs.Buffers.{bitsOver}
+use Rattle.frames.specs.Loops.{Drawn, Sending, Receiving}
+use Rattle.frames.proofs.Buffers.{frame-bits, frame-octets, front-more, bitsOver-none, bitsOver-more, bitsOver-bytes}
 
 -- ---- sending
 

@@ -10,10 +10,10 @@ use Rattle.standard.specs.declared.LineState.{LineState}
 use Rattle.standard.specs.declared.Record.{Record}
 use Rattle.mapping.specs.Tables.{pointTables}
 use Rattle.frame.specs.Parts.{stateOf, Sendable}
-use Rattle.codec.specs.Loops.{Drawn, Sending}
-use Rattle.codec.proofs.Loops.{send-start, sendable, send-more, send-all, few-bits, six-long}
-use Rattle.codec.proofs.send_frames.Statement.{statement}
-use Rattle.codec.proofs.send_frames.Tie as tie
+use Rattle.frames.specs.Loops.{Drawn, Sending}
+use Rattle.frames.proofs.Loops.{send-start, sendable, send-more, send-all, few-bits, six-long}
+use Rattle.frames.proofs.send_frames.Statement.{statement}
+use Rattle.frames.proofs.send_frames.Tie as tie
 
 abbrev Inv-loop : tie.InvT-loop
 Inv-loop law frames bytes octets₀ points mapping inverses width line₀ n₀ octets line n =
