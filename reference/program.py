@@ -115,10 +115,10 @@ def sent_sentence(record, count, data):
     sent = f"{counted(count, 'frame')} sent"
     filled = count * frame_bits(record) - 8 * len(data)
     if filled > 0:
-        return f"{sent}; {counted(filled, 'zero bit')} at the end fill the last one"
+        return f"{sent}; {counted(filled, 'zero bit')} added to fill the last one"
     if filled < 0:
-        return (f"{sent}; {counted(-filled, 'bit')} of data at the end fill no frame "
-                "and were not sent")
+        return (f"{sent}; {counted(-filled, 'bit')} of data at the end not sent, "
+                "too few for a frame")
     return sent
 
 
@@ -208,9 +208,9 @@ def say_reception(call, record, marks, left_over):
         call.say(f"{counted(more, 'more run')} of marked frames")
     call.say(received_sentence(marks))
     if doubtful:
-        call.say(f"{counted(doubtful, 'bit')} after marked frames are doubtful")
+        call.say(f"{counted(doubtful, 'doubtful bit')} after marked frames")
     if left_over:
-        call.say(f"{counted(left_over, 'octet')} at the end make no frame")
+        call.say(f"{counted(left_over, 'octet')} at the end too few for a frame")
 
 
 def receive(call, cp_name, law_name, *options):

@@ -1042,10 +1042,10 @@ def program_sentences():
         same(program.doubtful_bits(marks, width), doubtful_one_by_one(marks, width), "doubtful")
     files = {"example.cp": cases_cp.plain(EXAMPLE), "data": b"ab", "octets": b"\x7a" * 15}
     same(said(files, "send example.cp MU < data > line"),
-         ["v91: 1 frame sent; 5 zero bits at the end fill the last one", "v91: ok"], "send")
+         ["v91: 1 frame sent; 5 zero bits added to fill the last one", "v91: ok"], "send")
     same(said(files, "receive example.cp a 9 < octets > back"),
          ["v91: frames 0 to 1: interval 0 outside its mask",
-          "v91: 2 frames received, 2 of them marked", "v91: 3 octets at the end make no frame",
+          "v91: 2 frames received, 2 of them marked", "v91: 3 octets at the end too few for a frame",
           "v91: 2 bits of data in the last byte", "v91: the input ended 3 bytes of data too early",
           "v91: failed"], "receive")
     same((files["back"], len(files["line"])), (bytes(6), 6), "files written")

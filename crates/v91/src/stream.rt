@@ -16,7 +16,7 @@ fn say_sent(e: Ends, s: Sent) -> bool {
     if s.left != 0 {
         return tell(
             e,
-            b"# frame~ sent; # bit~ of data at the end fill no frame and were not sent",
+            b"# frame~ sent; # bit~ of data at the end not sent, too few for a frame",
             s.frames,
             s.left as u64,
         );
@@ -24,7 +24,7 @@ fn say_sent(e: Ends, s: Sent) -> bool {
     if s.padding != 0 {
         return tell(
             e,
-            b"# frame~ sent; # zero bit~ at the end fill the last one",
+            b"# frame~ sent; # zero bit~ added to fill the last one",
             s.frames,
             s.padding as u64,
         );
@@ -80,12 +80,12 @@ fn say_received(e: Ends, s: Received) {
         report.frames,
         report.marked,
     );
+    tell_some(e, report.doubtful, b"# doubtful bit~ after marked frames");
     tell_some(
         e,
-        report.doubtful,
-        b"# bit~ after marked frames are doubtful",
+        s.waiting as u64,
+        b"# octet~ at the end too few for a frame",
     );
-    tell_some(e, s.waiting as u64, b"# octet~ at the end make no frame");
     tell_some(e, s.held as u64, b"# bit~ of data in the last byte");
 }
 
