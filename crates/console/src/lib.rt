@@ -109,7 +109,8 @@ pub fn fail_choice(e: Ends, templates: &[u8], k: usize, values: &[u64], name: &[
     false
 }
 
-// The choice of `add_reason` for an error of the system.
+// The choice of `add_reason` for an error of the system: ENOENT, EBADF, EACCES, ENOTDIR, EISDIR, EINVAL, EFBIG, ENOSPC, EPIPE,
+// ENAMETOOLONG, in this order, and any other.
 fn reason_of(error: i32) -> usize {
     match error {
         2 => 0,

@@ -10,11 +10,11 @@ use words::add_numbers;
 ghost use mathlib.Core.Path.{_≡_};
 ghost use Prim.Native.Nat.{_≤_};
 ghost use lib.ListN.{length};
-ghost use Rattle.description.specs.Example.{exampleRecord};
+ghost use Rattle.theorems.specs.Examples.{common};
 
 // The record of document 01's examples: Ucodes 0 to 5 in one mask for all intervals, drn 1.
 pub fn example_record() -> Record
-    ensures { λ r. ⌜ r ≡ exampleRecord ⌝ }
+    ensures { λ r. ⌜ r ≡ common ⌝ }
 {
     Record {
         granted: false,

@@ -53,15 +53,14 @@ fn ended(s: Stream, trouble: Trouble) -> Stream {
     }
 }
 
-// Writes the samples of octets, and returns what went wrong with that.
-fn write_samples(e: Ends, law: Law, octets: &[u8]) -> Trouble {
+// Writes the samples of up to 1,024 octets, and returns what went wrong with that.
+fn write_samples(e: Ends, law: Law, octets: &[u8]) -> Trouble
+    requires { ⌜ length (now octets) ≤ 1024 ⌝ }
+{
     let mut samples = [0i32; 1024];
     let mut text = [0u8; 8192];
     pcm::linear(law, octets, &mut samples);
     let n = octets.len();
-    if 1024 < n {
-        return Trouble::Nothing;
-    }
     let at = add_samples(&mut text, &samples[0..n]);
     if io::write_all(e.output, &text[0..at]) {
         return Trouble::Nothing;

@@ -6,8 +6,6 @@ use console::fail_system;
 use description::add_example;
 use description::add_record;
 use description::example_record;
-ghost use Prim.Native.Nat.{_≤_};
-ghost use lib.ListN.{length};
 
 // Writes bytes to the output and returns whether they all went out; says so where they did not.
 pub(crate) fn write(e: Ends, bytes: &[u8]) -> bool {

@@ -22,7 +22,7 @@ added-full [] h = added-none
 added-full {s} {at} (c ∷ cs) h = let e = le-ltb at (length s) h in record { place = rw e; text = rw e }
 
 -- a place within the text stays within it
-pub within : (n at : ℕ) (xs : List ℕ) → at ≤ n → placeAfter n at xs ≤ n
+within : (n at : ℕ) (xs : List ℕ) → at ≤ n → placeAfter n at xs ≤ n
 unfolding placeAfter
 within n at [] h = h
 within n at (c ∷ cs) h = go (decLe n at) (within n (suc at) cs)
@@ -30,6 +30,11 @@ within n at (c ∷ cs) h = go (decLe n at) (within n (suc at) cs)
     go : Dec (n ≤ at) → (suc at ≤ n → placeAfter n (suc at) cs ≤ n) → cond (ltb at n) (placeAfter n (suc at) cs) at ≤ n
     go (yes l) ih = rw (le-ltb at n l) h
     go (no l) ih = rw (lt-ltb at n (omega arith)) (ih (omega arith))
+
+-- what comes of an addition from a place within the text
+pub added-within : {s : List ℕ} {at : ℕ} {xs t : List ℕ} {end : ℕ} → at ≤ length s → (end ≡ placeAfter (length s) at xs) × (t ≡ added s at xs)
+    → Added s at xs t end × (end ≤ length s)
+added-within {s} {at} {xs} h a = (record { place = a .0; text = a .1 }, rw (a .0) (within (length s) at xs h))
 
 full-added : {s : List ℕ} {at : ℕ} {xs t : List ℕ} {end : ℕ} → length s ≤ at → Added s at xs t end → (end ≡ at) × (t ≡ s)
 full-added {s} {at} {xs} h a = let f = added-full xs h in (a .place ∙ sym (f .place), a .text ∙ sym (f .text))

@@ -16,10 +16,14 @@ unfoldable pub past : ℕ → List ℕ → List ℕ
 past e [] = []
 past e (c ∷ cs) = cond (eqb c e) cs (past e cs)
 
--- part k of a text, the first of which is part 0; nothing where the text has fewer
+-- a text from part k on, the first of which is part 0
+unfoldable pub partsFrom : ℕ → ℕ → List ℕ → List ℕ
+partsFrom e zero text = text
+partsFrom e (suc k) text = partsFrom e k (past e text)
+
+-- part k of a text; nothing where the text has fewer
 unfoldable pub partAt : ℕ → ℕ → List ℕ → List ℕ
-partAt e zero text = before e text
-partAt e (suc k) text = partAt e k (past e text)
+partAt e k text = before e (partsFrom e k text)
 
 -- how many parts a text has
 unfoldable pub partCount : ℕ → List ℕ → ℕ

@@ -5,7 +5,7 @@ ghost use mathlib.Core.List.{map};
 ghost use Prim.Native.Nat.{_+_, _-_, _≤_};
 ghost use lib.ListN.{length, take, drop};
 ghost use Rattle.words.specs.Parts.{small as Parts·small, same as Parts·same, which as Parts·which};
-ghost use Rattle.words.specs.Parts.{before, past, partAt, partCount, allDigits, valueFrom, numberIn};
+ghost use Rattle.words.specs.Parts.{before, past, partsFrom, partAt, partCount, allDigits, valueFrom, numberIn};
 
 // The places from which and up to which a part stands.
 pub struct Part {
@@ -45,9 +45,10 @@ fn start_after(text: &[u8], e: u8, start: usize) -> usize
     end
 }
 
-// Part k of a text, the first of which is part 0; nothing where the text has fewer.
+// Part k of a text, the first of which is part 0; nothing where the text has fewer. From its start on the text is part k and those after it.
 pub fn part_at(text: &[u8], e: u8, k: usize) -> Part
     ensures { λ p. ⌜ (p .start ≤ p .end) × (p .end ≤ length (now (text .entry)))
+        × (drop (p .start) (now (text .entry)) ≡ partsFrom e k (now (text .entry)))
         × (take (p .end - p .start) (drop (p .start) (now (text .entry))) ≡ partAt e k (now (text .entry))) ⌝ }
 {
     let mut start = 0;

@@ -1,14 +1,11 @@
 -- The message is added, and a place within the text stays within it. Assumes nothing.
 use borrow.Author.Needs.{needs}
-use Rattle.words.proofs.Adding.{within}
+use Rattle.words.proofs.Adding.{added-within}
 use Rattle.words.proofs.add_numbers.Statement.{statement}
 use Rattle.words.proofs.add_numbers.Tie as tie
 
 returns : tie.Need-returns
-returns c =
-    let a = c .before .before .add-message .ensures in
-    let h = c .before .before .before .before .before .before .before .before .pre in
-    (record { place = a .0; text = a .1 }, rw (a .0) (within _ _ _ h))
+returns c = added-within (c .before .before .before .before .before .before .before .before .pre) (c .before .before .add-message .ensures)
 
 pub add-numbers-spec : {M : Type 1} → statement M
 add-numbers-spec = tie.close (tie.spec (λ c. search needs) (λ c. search needs) (λ c κs. tt) (λ c. search needs) returns)

@@ -24,14 +24,14 @@ returns : tie.Need-returns Inv-loop μ-loop
 returns c =
     let b = c .before .before .before in
     let l = b .before .before .loop in
-    let t = rw (c .before .same .ensures, b .part-at .ensures .2) at (c .if1 .taken) in
+    let t = rw (c .before .same .ensures, b .part-at .ensures .3) at (c .if1 .taken) in
     which-turn _ _ _ (l .k) _ (b .before .loop-test .taken) t ∙ l .inv .1
 
 loop-again : tie.Need-loop-again Inv-loop μ-loop
 loop-again c =
     let b = c .before .before .before in
     let l = b .before .before .loop in
-    let t = rw (c .before .same .ensures, b .part-at .ensures .2) at (c .if1 .left) in
+    let t = rw (c .before .same .ensures, b .part-at .ensures .3) at (c .if1 .left) in
     (omega arith, which-turn _ _ _ (l .k) _ (b .before .loop-test .taken) t ∙ l .inv .1)
 
 returns-2 : tie.Need-returns-2 Inv-loop μ-loop
