@@ -21,9 +21,10 @@ static const struct codec {
     uint32_t (*linear)(bool, const uint8_t *, size_t, int32_t *, size_t);
     uint32_t (*read_cp)(const uint8_t *, size_t, size_t, uint8_t *, size_t);
     uint32_t (*write_cp)(const uint8_t *, size_t, uint8_t *, size_t);
+    uint32_t (*send_dil)(bool, uint8_t *, size_t);
 } codecs[CODECS] = {
-    { plain_send, plain_receive, plain_linear, plain_read_cp, plain_write_cp },
-    { v91_send, v91_receive, v91_linear, v91_read_cp, v91_write_cp },
+    { plain_send, plain_receive, plain_linear, plain_read_cp, plain_write_cp, plain_send_dil },
+    { v91_send, v91_receive, v91_linear, v91_read_cp, v91_write_cp, v91_send_dil },
 };
 
 /* What the calls read, and what each codec writes. */
@@ -60,6 +61,11 @@ static uint32_t read_call(const struct codec *codec, struct written *to)
 static uint32_t write_call(const struct codec *codec, struct written *to)
 {
     return codec->write_cp(record, sizeof record, to->cp, sizeof to->cp) - (uint32_t)cp_bits;
+}
+
+static uint32_t dil_call(const struct codec *codec, struct written *to)
+{
+    return codec->send_dil(false, to->octets, V91_DIL_OCTETS) - V91_DIL_OCTETS;
 }
 
 static double now(void)
@@ -172,5 +178,6 @@ int main(void)
         measure("read_cp", g, 1, read_call, 1000);
         measure("write_cp", g, 1, write_call, 1000);
     }
+    measure("send_dil", 0, V91_DIL_OCTETS, dil_call, 1000);
     return 0;
 }

@@ -23,6 +23,7 @@ sys.path.insert(0, str(Path(__file__).resolve().parent.parent / "reference"))
 import cases_cp
 import cases_frames
 import cp
+import dil
 import forms
 import frames
 import linear
@@ -30,6 +31,7 @@ import record
 from samples import Draw, a_record, a_sparse_record, a_state, faulty_record
 
 RECORD_BYTES, STATE_BYTES = 105, 5
+DIL_OCTETS = dil.length(dil.TABLE_5)
 
 # The parameters of each entry; all but a_law and the counts are buffers: a pointer and a length.
 ENTRIES = {
@@ -38,8 +40,9 @@ ENTRIES = {
     "send": ("record", "a_law", "frames", "bits", "octets", "state"),
     "receive": ("record", "a_law", "frames", "octets", "bits", "marks", "state"),
     "linear": ("a_law", "octets", "samples"),
+    "send_dil": ("a_law", "octets"),
 }
-KINDS = list(ENTRIES)  # in the order of forms.py
+KINDS = list(ENTRIES)  # in the order of forms.py, which has no cases of the last
 NUMBERS = {"a_law": ctypes.c_bool, "frames": ctypes.c_size_t, "bit_count": ctypes.c_size_t}
 
 REFUSALS = {
@@ -48,6 +51,7 @@ REFUSALS = {
     "send": {4, *range(9, 18), 25},
     "receive": {4, *range(9, 18), 25},
     "linear": {17},
+    "send_dil": {17},
 }
 PAIRS = {
     "read_cp": cases_cp.pairs(cases_cp.READER_NUMBERS),
@@ -55,6 +59,7 @@ PAIRS = {
     "send": cases_frames.pairs(),
     "receive": cases_frames.pairs(),
     "linear": [],
+    "send_dil": [],
 }
 FAULTY = {  # how the reference makes a case in which given refusals hold, and which it can
     "read_cp": (cases_cp.faulty_sequence, cases_cp.READER_NUMBERS),
@@ -73,8 +78,11 @@ def answer_to(refusal):
 
 
 def is_done(answer):
-    """Whether a call was done: 0 or a count, 294 to 972; 25 with an interval is beyond 2^24."""
-    return answer == 0 or 294 <= answer < 1 << 24
+    """Whether a call was done: 0, a bit count, 294 to 972, or the 1,500 octets of the default DIL.
+
+    25 with an interval is beyond 2^24.
+    """
+    return answer == 0 or 294 <= answer <= 972 or answer == DIL_OCTETS
 
 
 def said(answer):
@@ -142,8 +150,13 @@ def want_linear(a_law, octets, samples):
     return answer_to(refusal), {"samples": struct.pack(f"<{room}i", *after)}
 
 
+def want_send_dil(a_law, octets):
+    refusal, after = dil.send_dil(a_law, octets)
+    return answer_to(refusal) or DIL_OCTETS, {"octets": after}
+
+
 WANT = {"read_cp": want_read_cp, "write_cp": want_write_cp, "send": want_send,
-        "receive": want_receive, "linear": want_linear}
+        "receive": want_receive, "linear": want_linear, "send_dil": want_send_dil}
 
 
 # The codec under test
@@ -472,11 +485,18 @@ class Test:
             octets = bytes(range(256)) if count == 256 else self.draw.octets(count)
             self.call("linear", self.draw.below(2), octets, self.some(4 * self.length(count)))
 
+    def learning(self):
+        """The default DIL in no buffer, in a short one, in those about as long as it and in a long one."""
+        less, more = self.draw.below(DIL_OCTETS), self.draw.between(DIL_OCTETS, 2 * DIL_OCTETS)
+        for length in (0, less, DIL_OCTETS - 1, DIL_OCTETS, DIL_OCTETS + 1, more):
+            for law in (0, 1):
+                self.call("send_dil", law, self.some(length))
+
     def run(self):
         """All calls."""
         often = [self.a_run] * 40 + [self.marked] * 6 + [self.refused] * 6 + [self.flipped] * 6
         rarely = [self.bad_buffers, self.edges, self.sparse] * 2 + [self.listed]
-        rarely += [self.samples] * 6
+        rarely += [self.samples] * 6 + [self.learning]
         try:
             self.longest()
             while True:

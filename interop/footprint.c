@@ -27,6 +27,7 @@ static void receive(void)
                          state, sizeof state);
 }
 static void linear(void) { answer = v91_linear(true, octets, sizeof octets, samples, V91_FRAMES_OCTETS); }
+static void send_dil(void) { answer = v91_send_dil(true, octets, sizeof octets); }
 
 static size_t used_by(void (*call)(void))
 {
@@ -72,5 +73,6 @@ int main(void)
     show("v91_send", send, 0);
     show("v91_receive", receive, 0);
     show("v91_linear", linear, 0);
+    show("v91_send_dil", send_dil, V91_DIL_OCTETS);
     return 0;
 }

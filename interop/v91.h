@@ -24,9 +24,9 @@
  * its own. They allocate nothing, call no function but memset, and return. The stack is to be aligned to 16
  * bytes at the call, as the convention says. SSE registers are used (xmm0 to xmm15), so an interrupt that
  * calls a function has to save them; so is the red zone, 128 bytes below the stack pointer. Measured by
- * interop/footprint in calls of 1,024 frames with six full masks, the red zone included: 19,774 bytes of
- * code and 576 of constants; of stack 576 bytes (v91_write_cp), 688 (v91_read_cp), 2,640 (v91_send), 2,576
- * (v91_receive) and 8 (v91_linear).
+ * interop/footprint in calls of 1,024 frames with six full masks, the red zone included: 19,993 bytes of
+ * code and 688 of constants; of stack 576 bytes (v91_write_cp), 688 (v91_read_cp), 2,640 (v91_send), 2,576
+ * (v91_receive), 8 (v91_linear) and 144 (v91_send_dil).
  */
 #ifndef V91_H
 #define V91_H
@@ -39,8 +39,8 @@
 extern "C" {
 #endif
 
-/* Raised where a function, a layout or an answer changes. */
-#define V91_VERSION 1
+/* Raised where a function is added, or a function, a layout or an answer changes. */
+#define V91_VERSION 2
 
 /* ---- refusals */
 
@@ -65,8 +65,8 @@ enum v91_refusal {
     V91_OUTPUT_TOO_SHORT = 17        /* a buffer to be written is shorter than needed */
 };
 
-/* Whether an answer is a refusal: it is 1 to 17, or 25 + (interval << 24). Else it is 0, or the bit count of
-   v91_write_cp, which is 294 to 972. */
+/* Whether an answer is a refusal: it is 1 to 17, or 25 + (interval << 24). Else it is 0, the bit count of
+   v91_write_cp, which is 294 to 972, or the 1,500 octets of v91_send_dil. */
 #define V91_REFUSED(answer) ((answer) != 0 && ((answer) < 294 || (answer) >= 1u << 24))
 
 /* Of an answer that is a refusal: its number; and with V91_INTERVAL_EMPTY the lowest such interval, 0 to 5. */
@@ -100,6 +100,7 @@ enum v91_refusal {
 #define V91_FRAMES_OCTETS 6144                               /* and the most octets */
 #define V91_CP_BITS 972                                      /* the longest CP */
 #define V91_CP_BYTES 122
+#define V91_DIL_OCTETS 1500                                  /* the default DIL */
 
 /* ---- functions */
 
@@ -129,6 +130,9 @@ uint32_t v91_receive(const uint8_t *record, size_t record_len, bool a_law, size_
 /* Turns each octet into its signed linear value; samples_len counts samples. Answers 0 or 17. */
 uint32_t v91_linear(bool a_law, const uint8_t *octets, size_t octets_len,
                     int32_t *samples, size_t samples_len);
+
+/* Writes the default DIL of V.91 Table 5, the whole sequence once. Answers its 1,500 octets, or 17. */
+uint32_t v91_send_dil(bool a_law, uint8_t *octets, size_t octets_len);
 
 #ifdef __cplusplus
 }

@@ -2,14 +2,15 @@
 
 A command reads its input, writes to its output, which is a file or standard output, and says
 sentences, which go to standard output. Not modelled is what the stored script leaves out: the text
-of help, the order of data and sentences about marked frames on one output, and `<` or `>` without a
-command before or a file after it.
+of help, the order of data and sentences about marked frames on one output, an output that cannot be
+written, and `<` or `>` without a command before or a file after it.
 """
 
 import re
 
 from describe import (DOUBTFUL, counted, demo_lines, description, example_cp, read_file,
                       refusal_sentence, shown)
+from dil import TABLE_5, length as dil_length, send_dil
 from frames import (FRESH, MOST_FRAMES, add_bits, data_bytes, frame_bits, get_bits, receive_frame,
                     send_frame)
 from linear import linear
@@ -17,7 +18,7 @@ from table1 import A, MU
 
 LAWS = {"mu": MU, "ulaw": MU, "a": A, "alaw": A}
 MOST_RUNS = 20
-VERSION = "v91 1"
+VERSION = "v91 2"
 HELP = ("help", "--help", "-h")
 
 NO_FILE = "there is no such file"
@@ -247,6 +248,13 @@ def tell_linear(call, law_name, *options):
     call.write_lines(linear(law, call.input, [0] * len(call.input))[1])
 
 
+def write_dil(call, law_name):
+    """`dil LAW`."""
+    octets = send_dil(law_named(law_name), bytes(dil_length(TABLE_5)))[1]
+    call.write(octets)
+    call.say(f"{counted(TABLE_5.n, 'segment')} of {len(octets) // TABLE_5.n} octets sent")
+
+
 def demo(call, *words):
     """`demo` and `demo cp`."""
     if not words:
@@ -264,7 +272,8 @@ def tell_version(call):
 
 # Each command with the least and the most words after it.
 COMMANDS = {"cp": (tell_cp, 1, 1), "send": (send, 2, 4), "receive": (receive, 2, 4),
-            "linear": (tell_linear, 1, 2), "demo": (demo, 0, 1), "--version": (tell_version, 0, 0)}
+            "linear": (tell_linear, 1, 2), "dil": (write_dil, 1, 1), "demo": (demo, 0, 1),
+            "--version": (tell_version, 0, 0)}
 
 
 # The script

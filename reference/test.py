@@ -1,7 +1,7 @@
 """Tests of the model: `python3 reference/test.py` prints a line for each group, then 'ok'.
 
-With -v it also says how many stored cases and rows of Table 1 each wrong codec fails, and at which
-line of the stored run each wrong program first differs.
+With -v it also says how many stored cases, rows of Table 1 and lines of the DIL each wrong codec
+fails, and at which line of the stored run each wrong program first differs.
 """
 
 import re
@@ -14,6 +14,7 @@ import cases_cp
 import cases_frames
 import cp
 import describe
+import dil
 import forms
 import frames
 import program
@@ -324,6 +325,7 @@ def stored_answers():
     texts = [stored_text(f"vectors_frames/{name}") for name in ("stdin", "stdout")]
     check(sum(map(len, texts)) < 1_500_000, "size of vectors_frames")
     check(stored_text("vectors_pcm/stdout").count("\n") == 512, "lines of vectors_pcm")
+    check(stored_text("vectors_dil/stdout").count("\n") == 885, "lines of vectors_dil")
     return f"{len(both)} cases"
 
 
@@ -451,6 +453,82 @@ def empty_intervals():
     return f"4000 records, {changed} stored cases with 25 that else have 11"
 
 
+# The default DIL (A.12)
+
+# DIL-segments of 6, 12 and 6 symbols whose reference symbols are 9, 20 and 127. The bits of SP are
+# 0 1 1 0 0 and those of TP 1 0 1 1, the first one first.
+SHORT_PATTERNS = dil.Parameters(n=3, lsp=5, ltp=4, sp=0b00110, tp=0b1101,
+                                h=(0, 1, 2, 2, 2, 2, 2, 0), ref=(9, 20, 1, 1, 1, 1, 1, 127),
+                                symbols=(3, 31, 112))
+
+# DIL-segments of 12 and 6 symbols whose reference symbols are 127 and 64. SP is longer than both:
+# 1 0 1, then 124 zeros and a 1; TP is 0 1 1 1 1 1 1, longer than the second.
+LONG_PATTERNS = dil.Parameters(n=2, lsp=128, ltp=7, sp=2**127 + 0b101, tp=0b1111110,
+                               h=(1, 0, 2, 2, 2, 2, 2, 2), ref=(127, 64, 1, 1, 1, 1, 1, 1),
+                               symbols=(0, 16))
+
+
+def other_dils():
+    """V.90 8.4.1 with other parameters than those of Table 5, by hand."""
+    same([dil.uchord_of(ucode) for ucode in (0, 15, 16, 31, 32, 111, 112, 127)],
+         [1, 1, 2, 2, 3, 7, 8, 8], "Uchords")
+    for law, parameters, wanted in (
+            (MU, SHORT_PATTERNS, "7cf6fc7c7c76 60ebe060606b e0e0606b60e0 0f808f0f0f00"),
+            (A, SHORT_PATTERNS, "56dcd656565c 4ac1ca4a4a41 caca4a414aca 25aaa525252a"),
+            (MU, LONG_PATTERNS, "807fff7f7f7f 7f007f7f7f7f bf6fef6f6f6f"),
+            (A, LONG_PATTERNS, "aa55d5555555 552a55555555 9545c5454545")):
+        octets = dil.octets_of(law, parameters)
+        same(octets.hex(" ", -6), wanted, f"octets of law {law} for {parameters}")
+        same(dil.length(parameters), len(octets), f"length for {parameters}")
+    same(dil.octets_of(A, SHORT_PATTERNS._replace(n=0)), b"", "N = 0")
+    longest = SHORT_PATTERNS._replace(n=255, h=(255,) * 8, symbols=(127,) * 255)
+    same(dil.length(longest), 255 * 1536, "the longest DIL")
+    return "5 by hand, the longest"
+
+
+def first_and_last():
+    """The first two DIL-segments and the last by hand: Ucodes 124, 0 and 62."""
+    for law, first, last in ((MU, "03" * 6 + "83" * 6 + "7f" * 6 + "ff" * 6, "41" * 6 + "c1" * 6),
+                             (A, "29" * 6 + "a9" * 6 + "55" * 6 + "d5" * 6, "6b" * 6 + "eb" * 6)):
+        octets = dil.send_dil(law, bytes(1500))[1]
+        same((octets[:24].hex(), octets[-12:].hex()), (first, last), "first and last DIL-segments")
+
+
+def each_segment():
+    """A DIL-segment is six negative octets and six positive ones, all of its training symbol."""
+    for law in (MU, A):
+        octets = dil.send_dil(law, bytes(1500))[1]
+        for n, symbol in enumerate(dil.TABLE_5.symbols):
+            segment = octets[12 * n:12 * n + 12]
+            same([octet >> 7 for octet in segment], [0] * 6 + [1] * 6, f"signs of segment {n}")
+            same({ucode_of(law, octet) for octet in segment}, {symbol}, f"Ucodes of segment {n}")
+
+
+def dil_buffers():
+    """17 below 1,500 bytes and nothing changed; else what lies beyond 1,500 stays."""
+    draw = Draw(7)
+    for law in (MU, A):
+        for room in (0, 1, 12, 1488, 1499):
+            before = draw.octets(room)
+            same(dil.send_dil(law, before), (Refusal(17), before), f"DIL in {room} bytes")
+        for spare in (0, 1, 12, 1500):
+            before = draw.octets(1500 + spare)
+            wanted = dil.octets_of(law, dil.TABLE_5) + before[1500:]
+            same(dil.send_dil(law, before), (None, wanted), f"DIL with {spare} bytes to spare")
+
+
+def default_dil():
+    """Table 5, the octets that it makes, the generator, and refusal 17."""
+    symbols = list(dil.TABLE_5.symbols)
+    same((len(symbols), dil.TABLE_5.n, dil.length(dil.TABLE_5)), (125, 125, 1500), "lengths")
+    same([dil.symbol_at(place) for place in range(125)], symbols, "training symbols generated")
+    same(sorted(symbols), list(range(125)), "Ucodes 0 to 124, each once")
+    first_and_last()
+    each_segment()
+    dil_buffers()
+    return "125 segments in each law, 18 buffers"
+
+
 # Wrong codecs
 
 RIGHT = {name: getattr(frames, name)
@@ -461,6 +539,7 @@ RIGHT_CP = {name: getattr(cp, name)
             for name in ("covered", "crc", "record_in", "record_faults", "reader_faults",
                          "writer_faults")}
 RIGHT_EMPTY = records.empty_intervals
+RIGHT_DIL = {name: getattr(dil, name) for name in ("octets_of", "send_dil", "symbols_of")}
 
 
 def history_zeroed(record, state, octets):
@@ -831,6 +910,65 @@ def with_bias(law, ucode):
     return value_by_rule(law, ucode) + 132 * (1 - law)
 
 
+def table_5_with(**changed):
+    """The changes that give Table 5 other parameters."""
+    return {"dil.TABLE_5": dil.TABLE_5._replace(**changed)}
+
+
+def symbol_changed(place, symbol):
+    """The changes that give Table 5 another training symbol at one place."""
+    symbols = dil.TABLE_5.symbols
+    return table_5_with(symbols=(*symbols[:place], symbol, *symbols[place + 1:]))
+
+
+def generator_exchanged(place):
+    """Place 2k holds k and place 2k + 1 holds 124 - k."""
+    k, odd = divmod(place, 2)
+    return 124 - k if odd else k
+
+
+def bits_from_the_top(pattern, period, place):
+    """The highest bit of a pattern is the first."""
+    return pattern >> period - 1 - place % period & 1
+
+
+def signs_run_on(parameters):
+    """SP is not restarted: it goes on from one DIL-segment into the next."""
+    return [(dil.pattern_bit(parameters.sp, parameters.lsp, place), ucode)
+            for place, (_, ucode) in enumerate(RIGHT_DIL["symbols_of"](parameters))]
+
+
+def dil_one_short(law, octets):
+    """A buffer of 1,499 is accepted, and the last octet is lost."""
+    if len(octets) < 1499:
+        return RIGHT_DIL["send_dil"](law, octets)
+    return None, RIGHT_DIL["send_dil"](law, octets + bytes(1))[1][:len(octets)]
+
+
+def dil_then_zeros(law, octets):
+    """What lies beyond the DIL is cleared."""
+    refusal, after = RIGHT_DIL["send_dil"](law, octets)
+    return refusal, after if refusal else after[:1500] + bytes(len(octets) - 1500)
+
+
+def dil_repeated(law, octets):
+    """The DIL is repeated to the end of the buffer, as V.90 has it."""
+    refusal, after = RIGHT_DIL["send_dil"](law, octets)
+    return refusal, after if refusal else (2 * after[:1500])[:len(octets)]
+
+
+def dil_as_far_as_it_fits(law, octets):
+    """A refusal writes what there is room for."""
+    refusal, _ = RIGHT_DIL["send_dil"](law, octets)
+    made = RIGHT_DIL["octets_of"](law, dil.TABLE_5)
+    return refusal, made[:len(octets)] + octets[1500:]
+
+
+def dil_in_no_buffer(law, octets):
+    """A buffer of no bytes is accepted."""
+    return RIGHT_DIL["send_dil"](law, octets) if octets else (None, b"")
+
+
 WRONG_CODECS = {
     "history zeroed on a mark": {"frames.after_mark": history_zeroed},
     "history kept on a mark": {"frames.after_mark": history_kept},
@@ -938,16 +1076,50 @@ WRONG_CODECS = {
     "values with the bias": {"vectors.value_by_rule": with_bias},
     "values of the other law": {"vectors.value_by_rule": lambda law, ucode:
                                 value_by_rule(1 - law, ucode)},
+    "DIL with one training symbol changed": symbol_changed(67, 92),
+    "DIL with its last training symbol changed": symbol_changed(124, 61),
+    "DIL of 124 segments": table_5_with(n=124),
+    "DIL generated with the formulas exchanged": {"dil.symbol_at": generator_exchanged},
+    "DIL generated from 125 down": {"dil.symbol_at": lambda place:
+                                    place // 2 if place % 2 else 125 - place // 2},
+    "DIL with patterns from the top": {"dil.pattern_bit": bits_from_the_top},
+    "DIL with SP from the top of 16 bits":
+        {**table_5_with(lsp=16, ltp=16, tp=0xFFFF), "dil.pattern_bit": bits_from_the_top},
+    "DIL with signs inverted": {"dil.octet_of": lambda law, sign, ucode:
+                                octet_of(law, 1 - sign, ucode)},
+    # With its 12 bits SP ends where a DIL-segment does, and whether it is restarted makes no
+    # difference; with the 16 bits that four hexadecimal digits have it does.
+    "DIL with SP of 16 bits not restarted":
+        {**table_5_with(lsp=16), "dil.symbols_of": signs_run_on},
+    "DIL of reference symbols": table_5_with(tp=0),
+    "DIL with TP 0FF1": table_5_with(tp=0x0FF1),
+    "DIL with eleven symbols a segment": {"dil.segment_length": lambda parameters, symbol: 11},
+    "DIL with H_c * 6 symbols a segment": {"dil.segment_length": lambda parameters, symbol: 6},
+    "DIL of the other law": {"dil.octets_of": lambda law, parameters:
+                             RIGHT_DIL["octets_of"](1 - law, parameters)},
+    "DIL in a buffer one too short": {"dil.send_dil": dil_one_short},
+    "DIL in no buffer": {"dil.send_dil": dil_in_no_buffer},
+    "DIL refused where it just fits": {"dil.length": lambda parameters: 1501},
+    "DIL refused with 16": {"dil.Refusal": lambda number: Refusal(16)},
+    "DIL clears what lies beyond": {"dil.send_dil": dil_then_zeros},
+    "DIL repeated": {"dil.send_dil": dil_repeated},
+    "DIL refused and written": {"dil.send_dil": dil_as_far_as_it_fits},
 }
 
 
+def stored_rows():
+    """The stored rows of Table 1 and lines of the DIL."""
+    return (stored_text("vectors_pcm/stdout") + stored_text("vectors_dil/stdout")).splitlines()
+
+
 def failed_rows(stored):
-    """How many stored rows of Table 1 differ from those made."""
-    return sum(row != made for row, made in zip(stored, vectors.pcm_lines().splitlines()))
+    """How many stored rows of Table 1 and lines of the DIL differ from those made."""
+    made = (vectors.pcm_lines() + vectors.dil_lines()).splitlines()
+    return sum(row != other for row, other in zip_longest(stored, made))
 
 
 def stopped(changes, both, stored):
-    """How many stored cases and rows a wrong codec, given by what it changes, fails."""
+    """How many stored cases, rows and lines a wrong codec, given by what it changes, fails."""
     changed = [patch(name, value) for name, value in changes.items()]
     for each in changed:
         each.start()
@@ -959,8 +1131,8 @@ def stopped(changes, both, stored):
 
 
 def wrong_codecs():
-    """Every wrong codec fails at a stored case or a stored row."""
-    both, stored = stored_cases(), stored_text("vectors_pcm/stdout").splitlines()
+    """Every wrong codec fails at a stored case, row or line."""
+    both, stored = stored_cases(), stored_rows()
     found = {name: stopped(changes, both, stored) for name, changes in WRONG_CODECS.items()}
     if "-v" in sys.argv:
         for name, count in found.items():
@@ -1050,6 +1222,8 @@ def program_sentences():
           "v91: failed"], "receive")
     same((files["back"], len(files["line"])), (bytes(6), 6), "files written")
     same(said(files, "linear mu < data"), ["-356", "-340", "v91: ok"], "linear")
+    same(said(files, "dil a > line"), ["v91: 125 segments of 12 octets sent", "v91: ok"], "dil")
+    same(files["line"], dil.octets_of(A, dil.TABLE_5), "the octets of dil")
     same([describe.rate(make(0, drn, 0, [0] * 6, [])) for drn in (1, 2, 3, 4, 17, 28)],
          ["28", "29 1/3", "30 2/3", "32", "49 1/3", "64"], "rates")
     same(describe.mask_line(1, 0x1FD1), "mask 1: Ucodes 0 4 6-12", "a mask")
@@ -1080,7 +1254,7 @@ def stored_run():
     told = {int(number) for number in re.findall(r"\(refusal (\d+)\)", "\n".join(lines))}
     same(told, {*range(2, 12), 13, 25}, "refusals told")
     outcomes = {(program.words_of(command)[0].lower(), good) for command, good in found}
-    for command in ("cp", "send", "receive", "linear", "demo"):
+    for command in ("cp", "send", "receive", "linear", "dil", "demo"):
         check({(command, True), (command, False)} <= outcomes, f"{command} good and failing")
     check({("--version", True), ("run", False), ("nonsense", False)} <= outcomes, "other words")
     same(set(map(len, trial.good_cps().values())), set(describe.CP_LENGTHS), "lengths of CPs read")
@@ -1093,7 +1267,8 @@ def stored_run():
 CALL = frames.MOST_FRAMES
 RIGHT_PROGRAM = {name: getattr(program, name)
                  for name in ("COMMANDS", "bytes_wanted", "cp_in", "data_and_marks",
-                              "doubtful_bits", "octets_for", "run_sentence", "runs_of", "send")}
+                              "doubtful_bits", "octets_for", "run_sentence", "runs_of", "send",
+                              "write_dil")}
 RIGHT_RUNS = describe.ucode_runs
 
 
@@ -1180,6 +1355,20 @@ def commands_with(**changed):
     return commands | {name: (command, *commands[name][1:]) for name, command in changed.items()}
 
 
+def dil_written(change):
+    """The commands with one that writes other octets than the DIL and says the same."""
+    def command(call, law_name):
+        call.write(change(dil.octets_of(program.law_named(law_name), dil.TABLE_5)))
+        call.say("125 segments of 12 octets sent")
+    return commands_with(dil=command)
+
+
+def dil_with_progress(call, law_name, *options):
+    """The word progress is taken after LAW."""
+    program.check_options("dil", options, ("progress",))
+    RIGHT_PROGRAM["write_dil"](call, law_name)
+
+
 WRONG_PROGRAMS = {
     "sender fresh in each call": {"program.octets_for": sender_fresh_each_call},
     "receiver fresh in each call": {"program.data_and_marks": receiver_fresh_each_call},
@@ -1207,6 +1396,13 @@ WRONG_PROGRAMS = {
     "plural always": {"program.counted": always_plural, "describe.counted": always_plural},
     "control characters shown": {"program.shown": lambda name: name},
     "one space between words": {"program.words_of": lambda line: line.split(" ")},
+    "DIL without its last octet": {"program.COMMANDS": dil_written(lambda octets: octets[:-1])},
+    "DIL sent twice": {"program.COMMANDS": dil_written(lambda octets: 2 * octets)},
+    "DIL in mu-law alone": {"program.send_dil": lambda law, octets: dil.send_dil(MU, octets)},
+    "DIL in A-law alone": {"program.send_dil": lambda law, octets: dil.send_dil(A, octets)},
+    "progress taken by dil": {"program.COMMANDS":
+                              program.COMMANDS | {"dil": (dil_with_progress, 1, 2)}},
+    "version 1": {"program.VERSION": "v91 1"},
 }
 
 
@@ -1241,8 +1437,8 @@ def wrong_programs():
 
 
 GROUPS = (table_1, examples, values, steps, cp_round_trips, demand_3, stored_answers,
-          stored_refusals, stored_coverage, empty_intervals, wrong_codecs, program_round_trips,
-          program_sentences, stored_run, wrong_programs)
+          stored_refusals, stored_coverage, empty_intervals, other_dils, default_dil, wrong_codecs,
+          program_round_trips, program_sentences, stored_run, wrong_programs)
 
 
 def main():

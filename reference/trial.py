@@ -229,6 +229,9 @@ linear
 linear mu progress progress
 linear xlaw
 linear mu exact
+dil
+dil mu progress
+dil xlaw
 demo cp cp
 demo words
 demo w\to
@@ -354,6 +357,12 @@ receive cleardown.cp mu < damaged > none
 linear mu < every
 linear a < every
 linear mu < nothing
+
+# The default DIL: what a receiver makes of it, and its octets as A-law values
+dil mu > octets
+receive example.cp mu < octets > back
+DIL ALAW > octets
+linear a < octets
 
 # The demo, its CP, and outputs in files that are written anew
 demo

@@ -9,6 +9,7 @@ from pathlib import Path
 
 import cases_cp
 import cases_frames
+import dil
 import trial
 from forms import answer
 from program import transcript
@@ -16,6 +17,7 @@ from table1 import octet_by_rule, octet_of, value_by_rule, value_of
 
 CRATES = Path(__file__).resolve().parent.parent / "crates"
 DATA = "v91/data"
+DIL_LENGTHS = (0, 1499, 1500, 1501)
 
 
 def hex_lines(byte_strings):
@@ -39,9 +41,30 @@ def pcm_lines():
     return "".join(lines)
 
 
+def lent(length):
+    """The buffer of send_dil as handed in."""
+    return bytes(i % 251 for i in range(length))
+
+
+def dil_call(law, name, length):
+    """A call of send_dil: law, buffer length and refusal, then the buffer, 12 octets a line."""
+    refusal, octets = dil.send_dil(law, lent(length))
+    head = f"{name} {length} {refusal.number if refusal else 0}\n"
+    return head + hex_lines(octets[first:first + 12] for first in range(0, length, 12))
+
+
+def dil_lines():
+    """The default DIL: the training symbols as printed and generated, then calls of send_dil."""
+    lines = [f"symbol {place} {symbol} {dil.symbol_at(place)}\n"
+             for place, symbol in enumerate(dil.TABLE_5.symbols)]
+    lines += [dil_call(law, name, length)
+              for law, name in enumerate(("mu", "a")) for length in DIL_LENGTHS]
+    return "".join(lines)
+
+
 def texts():
     """The stored files of the programs vectors_*: {path under crates: text}."""
-    made = {"vectors_pcm/stdout": pcm_lines()}
+    made = {"vectors_pcm/stdout": pcm_lines(), "vectors_dil/stdout": dil_lines()}
     for name, cases in (("vectors_cp", cases_cp.cases()), ("vectors_frames", cases_frames.cases())):
         made[f"{name}/stdin"] = hex_lines(cases)
         made[f"{name}/stdout"] = hex_lines(map(answer, cases))

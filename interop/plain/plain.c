@@ -406,3 +406,47 @@ uint32_t plain_linear(bool a_law, const uint8_t *octets, size_t octets_len,
     }
     return 0;
 }
+
+/* The default DIL. The Uchord of a training symbol decides how long its segment is, and which Ucode stands
+   where TP has a 0; both patterns begin anew, at their lowest bit, with each segment. */
+
+enum { SP = 0x0FC0, SP_BITS = 12, TP = 0x0FFF, TP_BITS = 12, SEGMENTS = 125 };
+
+static const struct { uint8_t h, ref; } uchords[8] = {
+    { 1, 0 }, { 1, 0 }, { 1, 0 }, { 1, 0 }, { 1, 0 }, { 1, 0 }, { 1, 0 }, { 1, 0 },
+};
+
+static const uint8_t training[SEGMENTS] = {
+    124, 0, 123, 1, 122, 2, 121, 3, 120, 4, 119, 5, 118, 6, 117, 7,
+    116, 8, 115, 9, 114, 10, 113, 11, 112, 12, 111, 13, 110, 14, 109, 15,
+    108, 16, 107, 17, 106, 18, 105, 19, 104, 20, 103, 21, 102, 22, 101, 23,
+    100, 24, 99, 25, 98, 26, 97, 27, 96, 28, 95, 29, 94, 30, 93, 31,
+    92, 32, 91, 33, 90, 34, 89, 35, 88, 36, 87, 37, 86, 38, 85, 39,
+    84, 40, 83, 41, 82, 42, 81, 43, 80, 44, 79, 45, 78, 46, 77, 47,
+    76, 48, 75, 49, 74, 50, 73, 51, 72, 52, 71, 53, 70, 54, 69, 55,
+    68, 56, 67, 57, 66, 58, 65, 59, 64, 60, 63, 61, 62,
+};
+
+static unsigned segment_octets(unsigned n)
+{
+    return 6 * (uchords[training[n] >> 4].h + 1u);
+}
+
+uint32_t plain_send_dil(bool a_law, uint8_t *octets, size_t octets_len)
+{
+    uint8_t positive = a_law ? 0xD5 : 0xFF;
+    uint32_t count = 0;
+
+    for (unsigned n = 0; n < SEGMENTS; n++)
+        count += segment_octets(n);
+    if (octets_len < count)
+        return 17;
+    for (unsigned n = 0; n < SEGMENTS; n++) {
+        uint8_t symbol = training[n], reference = uchords[symbol >> 4].ref;
+        for (unsigned at = 0, end = segment_octets(n); at < end; at++) {
+            uint8_t ucode = TP >> at % TP_BITS & 1 ? symbol : reference;
+            *octets++ = (positive ^ ucode) & (SP >> at % SP_BITS & 1 ? 0xFF : 0x7F);
+        }
+    }
+    return count;
+}

@@ -17,5 +17,6 @@ uint32_t plain_receive(const uint8_t *record, size_t record_len, bool a_law, siz
                        uint8_t *marks, size_t marks_len, uint8_t *state, size_t state_len);
 uint32_t plain_linear(bool a_law, const uint8_t *octets, size_t octets_len,
                       int32_t *samples, size_t samples_len);
+uint32_t plain_send_dil(bool a_law, uint8_t *octets, size_t octets_len);
 
 #endif

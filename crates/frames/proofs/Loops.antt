@@ -21,6 +21,7 @@ use Rattle.standard.specs.declared.Record.{Record}
 use Rattle.standard.proofs.Bits.{numberOf-at, numberOf-lt}
 use Rattle.standard.proofs.Frame.{length-sendFrames, length-receiveFrame, length-receiveFrames, length-receiveMarks, sendFrames-next}
 use Rattle.standard.proofs.Frame.{sendAfter-next, receiveFrames-next, receiveAfter-next, receiveMarks-next}
+use Rattle.standard.proofs.Filling.{front-more}
 use Rattle.bits.specs.PutField.{putField}
 use Rattle.bits.proofs.PutField.{length-putField}
 use Rattle.mapping.specs.declared.Mapping.{Mapping}
@@ -30,7 +31,7 @@ use Rattle.coding.specs.Reciprocals.{reciprocalOf}
 use Rattle.frame.specs.Parts.{Sendable, Receivable}
 use Rattle.frames.specs.Buffers.{bitsOver}
 use Rattle.frames.specs.Loops.{Drawn, Sending, Receiving}
-use Rattle.frames.proofs.Buffers.{frame-bits, frame-octets, front-more, bitsOver-none, bitsOver-more, bitsOver-bytes}
+use Rattle.frames.proofs.Buffers.{frame-bits, frame-octets, bitsOver-none, bitsOver-more, bitsOver-bytes}
 
 -- ---- sending
 
@@ -193,11 +194,6 @@ pub few-bits : (r : Record) (n frames width : ℕ) → n ≤ frames → frames �
 few-bits r n frames width a b e d =
     let w : width ≤ 48 = omega arith in
     (w, mul-le-mul {n₂ = 1024} {m₂ = 48} (omega arith) w)
-
--- a part of six octets
-pub six-long : (xs : List ℕ) (n frames : ℕ) → n < frames → 6 * frames ≤ length xs → length (take (6 * n + 6 - 6 * n) (drop (6 * n) xs)) ≡ 6
-six-long xs n frames h l =
-    let e : 6 * n + 6 - 6 * n ≡ 6 = omega arith in rw e (length-take-le 6 (drop (6 * n) xs) (rw length-drop (omega arith)))
 
 -- the data buffer has room for frame n
 pub bits-room : (r : Record) (n frames width len : ℕ) → n < frames → width ≡ D r → bytesFor (dataBits r frames) ≤ len

@@ -1,13 +1,14 @@
--- A buffer that is filled from the front, one place a turn. Assumes nothing.
-use mathlib.Core.Path.{_≡_, refl, sym, ap, _∙_}
+-- A buffer that is filled from the front, a place or a part a turn. Assumes nothing.
+use mathlib.Core.Path.{_≡_, refl, sym, ap, ap₂, _∙_}
 use mathlib.Core.Logic.{_⊎_, inl, inr}
-use Prim.Native.Nat.{ℕ, suc, _+_, _<_}
+use Prim.Native.Nat.{ℕ, suc, _+_, _-_, _≤_, _<_}
 use mathlib.Core.List.{List, [], _∷_, _++_, append-assoc}
 use native.Mathlib.Nat.{not-suc-le-zero, eq-or-lt-of-le}
 use native.Mathlib.Numerals.{add-one}
 use native.Mathlib.Omega.{arith}
-use lib.ListN.{length, getD, set, drop, length-set}
-use lib.Seq.{getD-set-same, getD-set-other, drop-cons, set-at}
+use borrow.Rule.Slice.PartMut.{putMid}
+use lib.ListN.{length, getD, set, take, drop, length-set, length-drop}
+use lib.Seq.{getD-set-same, getD-set-other, drop-cons, set-at, length-take-le, take-at, drop-at, drop-drop}
 use Rattle.standard.specs.Lists.{listFrom}
 use Rattle.standard.specs.Calls.{over}
 use Rattle.standard.proofs.Lists.{length-listFrom, listFrom-is, listFrom-snoc}
@@ -61,3 +62,19 @@ module _ {X : Type 0} (f : ℕ → X) (d : List X) where
 
   pub listed-all : (xs : List X) (n : ℕ) → xs ≡ listFrom f 0 n ++ drop n d → xs ≡ over (listFrom f 0 n) d
   listed-all xs n e = e ∙ ap (λ (k : ℕ). listFrom f 0 n ++ drop k d) (sym (length-listFrom f 0 n))
+
+-- ---- a part of k elements from place n on
+
+pub part-long : {X : Type 0} (xs : List X) (n k : ℕ) → n + k ≤ length xs → length (take (n + k - n) (drop n xs)) ≡ k
+part-long xs n k h =
+    let e : n + k - n ≡ k = omega arith in
+    rw e (length-take-le k (drop n xs) (omega (arith, length-drop n xs)))
+
+-- stored after the front xs
+pub front-more : {X : Type 0} (xs ys buffer : List X) (n k : ℕ) → length xs ≡ n → putMid n (n + k - n) (xs ++ drop n buffer) ys ≡ (xs ++ ys)
+    ++ drop (n + k) buffer
+front-more {X} xs ys buffer n k e =
+    let z : n + k - n ≡ k = omega arith in
+    ap₂ (λ (x y : List X). x ++ (ys ++ y)) (take-at xs (drop n buffer) n e)
+    (ap₂ (λ (i : ℕ) (y : List X). drop i y) z (drop-at xs (drop n buffer) n e) ∙ drop-drop k n buffer)
+    ∙ sym (append-assoc xs ys (drop (n + k) buffer))

@@ -10,6 +10,7 @@ pub mod Constellation
 pub mod Modulus
 pub mod Signs
 pub mod Octets
+pub mod Dil
 pub mod Frame
 pub mod Stages
 pub mod Refusals

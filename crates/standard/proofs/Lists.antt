@@ -189,6 +189,11 @@ module _ {X : Type 0} where
       ap₂ _∷_ (sym (take-at x (joined a) w (p .0)) ∙ ap (take w) e ∙ take-at y (joined b) w (q .0))
       (joined-inj w a b (p .1) (q .1) (omega arith) (sym (drop-at x (joined a) w (p .0)) ∙ ap (drop w) e ∙ drop-at y (joined b) w (q .0)))
 
+  pub sized-listFrom : (w : ℕ) (f : ℕ → List X) (i n : ℕ) → ((k : ℕ) → k < i + n → length (f k) ≡ w) → Sized w (listFrom f i n)
+  unfolding listFrom
+  sized-listFrom w f i zero h = tt
+  sized-listFrom w f i (suc n) h = (h i (omega arith), sized-listFrom w f (suc i) n (λ k l. h k (omega arith)))
+
   pub length-parts : (k n : ℕ) (xs : List X) → length (parts k n xs) ≡ n
   unfolding parts
   length-parts k zero xs = refl

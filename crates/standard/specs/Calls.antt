@@ -1,4 +1,4 @@
--- The five entries: a call of each as what is lent, the refusal's number (0 for none) with its value, and what is left: 'A refusal
+-- The six entries: a call of each as what is lent, the refusal's number (0 for none) with its value, and what is left: 'A refusal
 -- carries its number, and buffers and state are unchanged.' Assumes nothing.
 use Prim.Native.Nat.{ℕ, _*_}
 use mathlib.Core.Bool.{Bool, cond, _||_}
@@ -11,6 +11,7 @@ use Rattle.standard.specs.Bits.{bitAt, bitsIn, bytesOf, bytesFor, nth}
 use Rattle.standard.specs.Record.{topIndex, noRecord}
 use Rattle.standard.specs.Cp.{cpLength, cpByteCount, cpBytes, recordIn}
 use Rattle.standard.specs.Octets.{sampleOf}
+use Rattle.standard.specs.Dil.{defaultDil}
 use Rattle.standard.specs.Frame.{dataBits, sendFrames, sendAfter, receiveFrames, receiveMarks, receiveAfter}
 use Rattle.standard.specs.Refusals.{shorter, readTests, writeTests, frameTests}
 use Rattle.standard.specs.declared.Law.{Law}
@@ -141,3 +142,20 @@ linearRefusal c = first (test 17 (shorter (c .samples) (length (c .octets))) ∷
 
 unfoldable pub linearSamples : LinearCall → List ℤ
 linearSamples c = cond (accepted (linearRefusal c)) (over (map (sampleOf (c .law)) (c .octets)) (c .samples)) (c .samples)
+
+-- ---- the default DIL
+
+pub record DilCall : Type 0 where
+  pub law : Law
+  pub octets : List ℕ
+
+abbrev pub dilCall : Law → List ℕ → DilCall
+dilCall l os = record { law = l; octets = os }
+
+-- 'or declines with 17'
+unfoldable pub dilRefusal : DilCall → Answer
+dilRefusal c = first (test 17 (shorter (c .octets) (length (defaultDil (c .law)))) ∷ [])
+
+-- 'The sender writes the whole sequence in either law'
+unfoldable pub dilOctets : DilCall → List ℕ
+dilOctets c = cond (accepted (dilRefusal c)) (over (defaultDil (c .law)) (c .octets)) (c .octets)

@@ -9,6 +9,7 @@ pub mod Constellation
 pub mod Modulus
 pub mod Signs
 pub mod Octets
+pub mod Dil
 pub mod Frame
 pub mod Refusals
 pub mod Calls

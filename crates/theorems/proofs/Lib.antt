@@ -11,3 +11,4 @@ pub mod Zeros
 pub mod Instance
 pub mod Empty
 pub mod Lengths
+pub mod Dil

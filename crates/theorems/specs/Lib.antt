@@ -3,4 +3,5 @@ pub mod Examples
 pub mod RoundTrip
 pub mod Empty
 pub mod Lengths
+pub mod Dil
 pub mod Ignored

@@ -24,6 +24,7 @@ fn help(e: Ends) -> bool {
   v91 receive CPFILE LAW < octets > data
   v91 receive CPFILE LAW BYTES          the same, but no more than so many bytes of data
   v91 linear LAW < octets > text        linear samples, one a line
+  v91 dil LAW > octets                  the default DIL, V.91's learning sequence: 1,500 octets
   v91 demo                              an example: a CP, 63 bits sent and received, and one octet damaged
   v91 demo cp > FILE                    the CP of the example
   v91 run FILE                          the commands in FILE, one a line, each with its own < FILE and > FILE
@@ -60,7 +61,7 @@ fn unknown(e: Ends, words: &[u8]) -> bool {
 
 // The number of the command that the first word names, in the order of `run_command`.
 pub(crate) fn command_of(words: &[u8]) -> usize {
-    let names = b"cp\nsend\nreceive\nlinear\ndemo\nhelp\n--help\n-h\n--version\nrun\n";
+    let names = b"cp\nsend\nreceive\nlinear\ndil\ndemo\nhelp\n--help\n-h\n--version\nrun\n";
     words::which(names, b'\n', words::nth_part(words, 0, 0))
 }
 
@@ -71,11 +72,12 @@ pub(crate) fn run_command(e: Ends, words: &[u8], command: usize) -> bool {
         2 => has(e, words, 3, 5) && stream::send(e, words),
         3 => has(e, words, 3, 5) && stream::receive(e, words),
         4 => has(e, words, 2, 3) && stream::linear(e, words),
-        5 => has(e, words, 1, 2) && output::demo(e, words),
-        6 => help(e),
+        5 => has(e, words, 2, 2) && output::dil(e, words),
+        6 => has(e, words, 1, 2) && output::demo(e, words),
         7 => help(e),
         8 => help(e),
-        9 => write(e, b"v91 1\n"),
+        9 => help(e),
+        10 => write(e, b"v91 2\n"),
         _ => unknown(e, words),
     }
 }
@@ -86,7 +88,7 @@ fn run_words(e: Ends, words: &[u8]) -> bool {
         return help(e);
     }
     let command = command_of(words);
-    if command == 10 {
+    if command == 11 {
         return has(e, words, 2, 2) && script::run(e, words);
     }
     run_command(e, words, command)

@@ -1,11 +1,17 @@
-// What the commands write: bytes, a CP in plain words, the example.
+// What the commands write: bytes, a CP in plain words, the default DIL, the example.
+use crate::asked::Named;
+use crate::asked::law_at;
 use crate::cp_file::load_cp;
 use console::Ends;
 use console::fail_name;
 use console::fail_system;
+use console::tell;
 use description::add_example;
 use description::add_record;
 use description::example_record;
+use dil::DIL_OCTETS;
+use dil::SEGMENT_SYMBOLS;
+use dil::SEGMENTS;
 
 // Writes bytes to the output and returns whether they all went out; says so where they did not.
 pub(crate) fn write(e: Ends, bytes: &[u8]) -> bool {
@@ -24,6 +30,23 @@ pub(crate) fn cp(e: Ends, words: &[u8]) -> bool {
     let mut text = [0u8; 8192];
     let at = add_record(&mut text, 0, loaded.record, loaded.bit_count);
     write(e, &text[0..at])
+}
+
+// Writes the default DIL in the law that word 1 names.
+pub(crate) fn dil(e: Ends, words: &[u8]) -> bool {
+    let named = law_at(e, words, 1);
+    let Named::Is(law) = named else {
+        return false;
+    };
+    let mut octets = [0u8; DIL_OCTETS];
+    dil::send_dil(law, &mut octets);
+    write(e, &octets)
+        && tell(
+            e,
+            b"# segment~ of # octets sent",
+            SEGMENTS as u64,
+            SEGMENT_SYMBOLS as u64,
+        )
 }
 
 // Shows the example.

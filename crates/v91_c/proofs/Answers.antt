@@ -15,7 +15,7 @@ use Rattle.standard.specs.Cp.{cpByteCount}
 use Rattle.standard.specs.Refusals.{outcomeAnswer, shorter, recordTests, readTests, writeTests}
 use Rattle.standard.specs.Calls.{accepted, over, readCall, readRefusal, readRecord, WriteCall, writeCall, writeRefusal, writeBitCount}
 use Rattle.standard.specs.Calls.{writeBytes, sendCall, sendRefusal, sendLeft, sendOctets, receiveCall, receiveRefusal, receiveLeft}
-use Rattle.standard.specs.Calls.{receiveBytes, receiveMarked}
+use Rattle.standard.specs.Calls.{receiveBytes, receiveMarked, dilCall, dilRefusal, dilOctets}
 use Rattle.standard.specs.declared.Law.{Law}
 use Rattle.standard.specs.declared.LineState.{LineState}
 use Rattle.standard.specs.declared.Outcome.{Outcome}
@@ -24,11 +24,13 @@ use Rattle.standard.specs.declared.Record.{Record}
 use Rattle.standard.proofs.Lists.{or-none}
 use Rattle.standard.proofs.First.{None, none-first, first-append, first-left}
 use Rattle.standard.proofs.Stages.{refused-not}
+use Rattle.standard.proofs.Dil.{length-defaultDil}
 use Rattle.standard.proofs.Refusals.{top-lt, read-numbered, write-numbered}
 use Rattle.forms.specs.Coded.{coded}
 use Rattle.forms.specs.RecordBytes.{recordLength, recordBytes, recordAt}
 use Rattle.forms.specs.StateBytes.{stateLength, stateBytes, stateAt}
 use Rattle.v91_c.specs.Interface.{lawOf, answered, frameAnswer, stateLeft, v91ReadCp, v91WriteCp, v91Send, v91Receive}
+use Rattle.v91_c.specs.Interface.{v91SendDil}
 
 -- ---- an outcome in one number: 0 where nothing is refused, and only there
 
@@ -200,3 +202,15 @@ module _ (rec : List ℕ) (a : Bool) (n : ℕ) (octets bits marks state : List �
           ≡ record { answer = k; bits = bs; marks = ms; state = s }
       go true f = rw (frame-long rec state _ h, eb, em, q, e, ← er, ← es, ← el, ← eo, f, ek, coded-zero o f)
       go false f = rw (frame-long rec state _ h, eb, em, q, ← er, ← es, ← el, ← eo, f, ek)
+
+-- ---- v91_send_dil
+
+module _ (a : Bool) (octets : List ℕ) (l : Law) (el : l ≡ lawOf a) (o : Outcome) (eo : outcomeAnswer o ≡ dilRefusal (dilCall l octets))
+    (k : ℕ) (ek : k ≡ coded (outcomeAnswer o)) (os : List ℕ) (eos : os ≡ dilOctets (dilCall l octets)) where
+  pub dil-refused : (k ≡ 0 → ⊥) → v91SendDil a octets ≡ record { answer = k; octets = os }
+  unfolding v91SendDil answered dilOctets
+  dil-refused p = rw (eos, ← el, ← eo, code-refused o k ek p, ek)
+
+  pub dil-done : k ≡ 0 → v91SendDil a octets ≡ record { answer = 1500; octets = os }
+  unfolding v91SendDil answered
+  dil-done z = rw (eos, ← el, ← eo, code-done o k ek z, length-defaultDil)

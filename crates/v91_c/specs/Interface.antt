@@ -3,11 +3,14 @@ use Prim.Native.Nat.{ℕ}
 use mathlib.Core.Bool.{Bool, true, false, cond}
 use mathlib.Core.List.{List, [], _∷_, _++_}
 use lib.Dec.{eqb}
+use lib.ListN.{length}
 use Rattle.standard.specs.First.{Answer, Test, test, first}
 use Rattle.standard.specs.Refusals.{shorter, readTests}
+use Rattle.standard.specs.Dil.{defaultDil}
 use Rattle.standard.specs.Calls.{accepted, over, readCall, readRecord, writeCall, writeRefusal, writeBitCount, writeBytes}
 use Rattle.standard.specs.Calls.{sendCall, sendRefusal, sendLeft, sendOctets}
 use Rattle.standard.specs.Calls.{receiveCall, receiveRefusal, receiveLeft, receiveBytes, receiveMarked}
+use Rattle.standard.specs.Calls.{dilCall, dilRefusal, dilOctets}
 use Rattle.standard.specs.declared.Law.{Law}
 use Rattle.standard.specs.declared.Law.the-variants.{Mu, A}
 use Rattle.standard.specs.declared.LineState.{LineState}
@@ -96,3 +99,16 @@ v91Receive rec aLaw frames octets bits marks state =
       state = stateLeft frames (receiveLeft st call) state;
     })
     (λ n. record { answer = n; bits = bits; marks = marks; state = state })
+
+-- ---- v91_send_dil: it answers the length of the sequence
+
+pub record AfterDil : Type 0 where
+  pub answer : ℕ
+  pub octets : List ℕ
+
+unfoldable pub v91SendDil : Bool → List ℕ → AfterDil
+v91SendDil aLaw octets =
+    let call = dilCall (lawOf aLaw) octets in
+    answered (dilRefusal call)
+    (record { answer = length (defaultDil (lawOf aLaw)); octets = dilOctets call })
+    (λ n. record { answer = n; octets = octets })

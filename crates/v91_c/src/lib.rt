@@ -1,4 +1,5 @@
 // The C interface: interop/v91.h declares these functions.
+use dil::DIL_OCTETS;
 use forms::RECORD_BYTES;
 use forms::STATE_BYTES;
 use standard::FramesDone;
@@ -14,6 +15,7 @@ ghost use Rattle.forms.specs.Coded.{coded};
 ghost use Rattle.forms.specs.RecordBytes.{recordLength};
 ghost use Rattle.forms.specs.StateBytes.{stateLength};
 ghost use Rattle.v91_c.specs.Interface.{lawOf, answered, stateLeft, v91ReadCp, v91WriteCp, v91Send, v91Receive};
+ghost use Rattle.v91_c.specs.Interface.{v91SendDil};
 
 // The law that the flag `a_law` names.
 fn law_of(a_law: bool) -> Law
@@ -137,4 +139,16 @@ pub extern "C" fn v91_receive(
     let line = forms::state_from(state);
     let done = codec::receive(r, law_of(a_law), frames, line, octets, bits, marks);
     end_call(done, frames, state)
+}
+
+// Writes the default DIL, and answers how many octets it has.
+#[no_mangle]
+pub extern "C" fn v91_send_dil(a_law: bool, octets: &mut [u8]) -> u32
+    ensures { λ r. ⌜ v91SendDil «a_law» (now (octets .entry)) ≡ record { answer = r; octets = now (octets .exit) } ⌝ }
+{
+    let refusal = forms::code_of(dil::send_dil(law_of(a_law), octets));
+    if refusal != 0 {
+        return refusal;
+    }
+    DIL_OCTETS as u32
 }

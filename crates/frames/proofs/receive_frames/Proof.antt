@@ -12,10 +12,11 @@ use Rattle.standard.specs.declared.LineState.{LineState}
 use Rattle.standard.specs.declared.Record.{Record}
 use Rattle.bits.specs.PutField.{putField, Holds, poured}
 use Rattle.bits.proofs.Joining.{poured-none, length-poured, pours, poured-out}
+use Rattle.standard.proofs.Filling.{part-long}
 use Rattle.mapping.specs.Tables.{labelTables}
 use Rattle.frame.specs.Parts.{stateOf, Receivable}
 use Rattle.frames.specs.Loops.{Drawn, Receiving}
-use Rattle.frames.proofs.Loops.{receive-start, receivable, receive-more, receive-all, few-bits, six-long, bits-room, word-fits}
+use Rattle.frames.proofs.Loops.{receive-start, receivable, receive-more, receive-all, few-bits, bits-room, word-fits}
 use Rattle.frames.proofs.receive_frames.Statement.{statement}
 use Rattle.frames.proofs.receive_frames.Tie as tie
 
@@ -97,8 +98,7 @@ receive-frame-requires : tie.Need-receive-frame-requires Inv-loop μ-loop
 receive-frame-requires c κs =
     let b = start (c .before .before .before .before) in (
       (_, able (c .before .before) _ (drawn (c .before .before .before .before))),
-      six-long (b .args .octets .now)
-          (c .before .before .before .loop .n) (b .args .frames) (omega arith) (b .pre .1),
+      part-long (b .args .octets .now) (6 * c .before .before .before .loop .n) 6 (omega (arith, b .pre .1)),
     )
 
 pour-requires : tie.Need-pour-requires Inv-loop μ-loop

@@ -8,10 +8,11 @@ use Rattle.standard.specs.Frame.{dataBits, sendFrames, sendAfter}
 use Rattle.standard.specs.Calls.{over}
 use Rattle.standard.specs.declared.LineState.{LineState}
 use Rattle.standard.specs.declared.Record.{Record}
+use Rattle.standard.proofs.Filling.{part-long}
 use Rattle.mapping.specs.Tables.{pointTables}
 use Rattle.frame.specs.Parts.{stateOf, Sendable}
 use Rattle.frames.specs.Loops.{Drawn, Sending}
-use Rattle.frames.proofs.Loops.{send-start, sendable, send-more, send-all, few-bits, six-long}
+use Rattle.frames.proofs.Loops.{send-start, sendable, send-more, send-all, few-bits}
 use Rattle.frames.proofs.send_frames.Statement.{statement}
 use Rattle.frames.proofs.send_frames.Tie as tie
 
@@ -106,8 +107,7 @@ send-frame-requires : tie.Need-send-frame-requires Inv-loop μ-loop
 send-frame-requires c κs =
     let l = c .before .before .before .before .loop in (
       (_, able (c .before .before .before) _ (drawn (c .before .before .before .before .before))),
-      six-long (l .octets) (l .n) (l .n + 1)
-          (omega arith) (omega (arith, turn (c .before .before .before) .1)),
+      part-long (l .octets) (6 * l .n) 6 (turn (c .before .before .before) .1),
     )
 
 add-n : tie.Need-add-n Inv-loop μ-loop
