@@ -461,6 +461,11 @@ SHORT_PATTERNS = dil.Parameters(n=3, lsp=5, ltp=4, sp=0b00110, tp=0b1101,
                                 h=(0, 1, 2, 2, 2, 2, 2, 0), ref=(9, 20, 1, 1, 1, 1, 1, 127),
                                 symbols=(3, 31, 112))
 
+# DIL-segments of 6 and 12 symbols whose reference symbols are 3 and 20: the example in theorems. The
+# bits of SP are 1 1 0 0 0 and those of TP 1 0 1 1.
+TWO_SEGMENTS = dil.Parameters(n=2, lsp=5, ltp=4, sp=0b00011, tp=0b1101, h=(0, 1), ref=(3, 20),
+                              symbols=(5, 17))
+
 # DIL-segments of 12 and 6 symbols whose reference symbols are 127 and 64. SP is longer than both:
 # 1 0 1, then 124 zeros and a 1; TP is 0 1 1 1 1 1 1, longer than the second.
 LONG_PATTERNS = dil.Parameters(n=2, lsp=128, ltp=7, sp=2**127 + 0b101, tp=0b1111110,
@@ -475,6 +480,7 @@ def other_dils():
     for law, parameters, wanted in (
             (MU, SHORT_PATTERNS, "7cf6fc7c7c76 60ebe060606b e0e0606b60e0 0f808f0f0f00"),
             (A, SHORT_PATTERNS, "56dcd656565c 4ac1ca4a4a41 caca4a414aca 25aaa525252a"),
+            (MU, TWO_SEGMENTS, "fafc7a7a7afc eeeb6e6e6eeb ee6e6e6beeee"),
             (MU, LONG_PATTERNS, "807fff7f7f7f 7f007f7f7f7f bf6fef6f6f6f"),
             (A, LONG_PATTERNS, "aa55d5555555 552a55555555 9545c5454545")):
         octets = dil.octets_of(law, parameters)
@@ -483,7 +489,7 @@ def other_dils():
     same(dil.octets_of(A, SHORT_PATTERNS._replace(n=0)), b"", "N = 0")
     longest = SHORT_PATTERNS._replace(n=255, h=(255,) * 8, symbols=(127,) * 255)
     same(dil.length(longest), 255 * 1536, "the longest DIL")
-    return "5 by hand, the longest"
+    return "6 by hand, the longest"
 
 
 def first_and_last():

@@ -8,7 +8,6 @@ use borrow.Rule.Slice.PartMut.{putMid}
 use lib.ListN.{length, drop, length-append, length-drop}
 use Rattle.standard.specs.First.{bare, first}
 use Rattle.standard.specs.Lists.{listFrom, joined}
-use Rattle.standard.specs.Dil.{defaultDil}
 use Rattle.standard.specs.Calls.{dilCall, dilRefusal, dilOctets}
 use Rattle.standard.specs.declared.Law.{Law}
 use Rattle.standard.proofs.Dil.{segmentAt, segments, segments-next, length-segments, defaultDil-is, length-defaultDil}

@@ -8,7 +8,7 @@ use native.Mathlib.Numerals.{add-one}
 use native.Mathlib.Omega.{arith}
 use borrow.Rule.Slice.PartMut.{putMid}
 use lib.ListN.{length, getD, take, drop, set, length-append, length-drop, length-set, List·getD-append, List·getD-eq-default}
-use lib.Seq.{drop-cons, set-at, append-snoc, getD-append-add, length-take-le}
+use lib.Seq.{drop-cons, set-at, append-snoc, getD-append-add}
 use Rattle.standard.specs.Lists.{listFrom, parts, joined, each, after}
 use Rattle.standard.specs.Bits.{odd, bit, bitAt, bitsIn, field, bytesFor, bytesOf, nth, numberOf, bitsOf}
 use Rattle.standard.specs.Record.{D}

@@ -33,7 +33,8 @@ module _ (p : DilParameters) where
   segmentLength u = (forUchord (p .H) u + 1) * 6
 
   -- 'An SP bit determines the sign of a transmitted symbol. 0 shall represent negative and 1 shall represent positive.' 'The LSB of each
-  -- pattern applies to the first symbol of a DIL-segment.' 'The patterns are repeated independently'
+  -- pattern applies to the first symbol of a DIL-segment.' 'The patterns are repeated independently within DIL-segments whose lengths exceed
+  -- that of L_SP or L_TP.'
   unfoldable pub symbolSign : ℕ → Bool
   symbolSign k = bit (p .SP) (k % p .LSP)
 
@@ -53,6 +54,8 @@ module _ (p : DilParameters) where
 
 -- ---- V.91 Table 5
 
+-- 'Training symbols', row by row as printed; 'The training symbol for the first DIL-segment is represented by Ucode 124, the training symbol
+-- for the 2nd DIL-segment is represented by Ucode 0, etc.'
 unfoldable pub trainingSymbols : List ℕ
 trainingSymbols =
     124 ∷ 0 ∷ 123 ∷ 1 ∷ 122 ∷ 2 ∷ 121 ∷ 3 ∷ 120 ∷ 4 ∷ 119 ∷ 5 ∷ 118 ∷ 6 ∷ 117 ∷ 7 ∷
@@ -64,6 +67,7 @@ trainingSymbols =
     76 ∷ 48 ∷ 75 ∷ 49 ∷ 74 ∷ 50 ∷ 73 ∷ 51 ∷ 72 ∷ 52 ∷ 71 ∷ 53 ∷ 70 ∷ 54 ∷ 69 ∷ 55 ∷
     68 ∷ 56 ∷ 67 ∷ 57 ∷ 66 ∷ 58 ∷ 65 ∷ 59 ∷ 64 ∷ 60 ∷ 63 ∷ 61 ∷ 62 ∷ []
 
+-- 'Default DIL parameters', row by row: H_1 to H_8 are 1, and REF_1 to REF_8 are 0
 unfoldable pub table5 : DilParameters
 table5 =
     record {

@@ -205,8 +205,8 @@ module _ (rec : List ℕ) (a : Bool) (n : ℕ) (octets bits marks state : List �
 
 -- ---- v91_send_dil
 
-module _ (a : Bool) (octets : List ℕ) (l : Law) (el : l ≡ lawOf a) (o : Outcome) (eo : outcomeAnswer o ≡ dilRefusal (dilCall l octets))
-    (k : ℕ) (ek : k ≡ coded (outcomeAnswer o)) (os : List ℕ) (eos : os ≡ dilOctets (dilCall l octets)) where
+module _ (a : Bool) (octets : List ℕ) {l : Law} (el : l ≡ lawOf a) (o : Outcome) (eo : outcomeAnswer o ≡ dilRefusal (dilCall l octets))
+    {k : ℕ} (ek : k ≡ coded (outcomeAnswer o)) {os : List ℕ} (eos : os ≡ dilOctets (dilCall l octets)) where
   pub dil-refused : (k ≡ 0 → ⊥) → v91SendDil a octets ≡ record { answer = k; octets = os }
   unfolding v91SendDil answered dilOctets
   dil-refused p = rw (eos, ← el, ← eo, code-refused o k ek p, ek)

@@ -1,6 +1,6 @@
 -- `dil::generated_symbol` meets its contract, at even and at odd places: the generator gives the table. Assumes nothing.
-use mathlib.Core.Path.{_≡_, sym, _∙_}
-use Prim.Native.Nat.{_/_, _%_, _-_}
+use mathlib.Core.Path.{_≡_}
+use Prim.Native.Nat.{_%_}
 use borrow.Author.Needs.{needs}
 use native.Mathlib.Omega.{arith}
 use Rattle.standard.specs.Dil.{generatedSymbol}

@@ -9,18 +9,16 @@ returns c =
     let code = c .before in
     let entry = code .before .before .before in
     let law = entry .before .before in
-    let a = law .before .before .args in
-    dil-refused _ (a .octets .now) (law .law-of .result) (law .law-of .ensures) (entry .send-dil .result) (entry .send-dil .ensures .0) _
-    (code .code-of .ensures) _ (entry .send-dil .ensures .1) (c .if1 .taken)
+    dil-refused _ (law .before .before .args .octets .now) (law .law-of .ensures) (entry .send-dil .result) (entry .send-dil .ensures .0)
+    (code .code-of .ensures) (entry .send-dil .ensures .1) (c .if1 .taken)
 
 returns-2 : tie.Need-returns-2
 returns-2 c =
     let code = c .before in
     let entry = code .before .before .before in
     let law = entry .before .before in
-    let a = law .before .before .args in
-    dil-done _ (a .octets .now) (law .law-of .result) (law .law-of .ensures) (entry .send-dil .result) (entry .send-dil .ensures .0) _
-    (code .code-of .ensures) _ (entry .send-dil .ensures .1) (c .if1 .left)
+    dil-done _ (law .before .before .args .octets .now) (law .law-of .ensures) (entry .send-dil .result) (entry .send-dil .ensures .0)
+    (code .code-of .ensures) (entry .send-dil .ensures .1) (c .if1 .left)
 
 pub v91-send-dil-spec : {M : Type 1} → statement M
 v91-send-dil-spec =
