@@ -1,4 +1,4 @@
-/* How many frames, octets or CPs a second the proved codec and the plain one manage, and the ratio of the two.
+/* How many frames, octets, CPs or plans a second the proved codec and the plain one manage, and the ratio of the two.
    Both run in this one process on buffers written before. A round times one codec and then the other, the first
    of them in turn; the first rounds warm up and do not count. Each figure is the median of the rounds that do, and
    beside the ratio stand its quartiles. Seconds are those of the processor, so that other programs disturb little. */
@@ -12,6 +12,7 @@
 #include <time.h>
 
 enum { PLAIN, PROVED, CODECS, WARM_UP = 3, ROUNDS = 41, CP_BYTES = 122, OCTETS = 6 * V91_FRAMES };
+enum { PLAN_K = 24, PLAN_SPACING = 600 };
 
 static const struct codec {
     uint32_t (*send)(const uint8_t *, size_t, bool, size_t, const uint8_t *, size_t,
@@ -22,9 +23,10 @@ static const struct codec {
     uint32_t (*read_cp)(const uint8_t *, size_t, size_t, uint8_t *, size_t);
     uint32_t (*write_cp)(const uint8_t *, size_t, uint8_t *, size_t);
     uint32_t (*send_dil)(bool, uint8_t *, size_t);
+    uint32_t (*plan)(uint32_t, bool, uint32_t, uint64_t, uint8_t *, size_t);
 } codecs[CODECS] = {
-    { plain_send, plain_receive, plain_linear, plain_read_cp, plain_write_cp, plain_send_dil },
-    { v91_send, v91_receive, v91_linear, v91_read_cp, v91_write_cp, v91_send_dil },
+    { plain_send, plain_receive, plain_linear, plain_read_cp, plain_write_cp, plain_send_dil, plain_plan },
+    { v91_send, v91_receive, v91_linear, v91_read_cp, v91_write_cp, v91_send_dil, v91_plan },
 };
 
 /* What the calls read, and what each codec writes. */
@@ -32,7 +34,7 @@ static uint8_t record[V91_RECORD_BYTES], bits[OCTETS], line[OCTETS], cp[CP_BYTES
 static size_t count, bits_len, cp_bits;
 static struct written {
     uint8_t octets[OCTETS], heard[OCTETS], marks[V91_FRAMES], state[V91_STATE_BYTES];
-    uint8_t record[V91_RECORD_BYTES], cp[CP_BYTES];
+    uint8_t record[V91_RECORD_BYTES], cp[CP_BYTES], plan[V91_PLAN_BYTES];
     int32_t samples[OCTETS];
 } written[CODECS];
 
@@ -66,6 +68,11 @@ static uint32_t write_call(const struct codec *codec, struct written *to)
 static uint32_t dil_call(const struct codec *codec, struct written *to)
 {
     return codec->send_dil(false, to->octets, V91_DIL_OCTETS) - V91_DIL_OCTETS;
+}
+
+static uint32_t plan_call(const struct codec *codec, struct written *to)
+{
+    return codec->plan(PLAN_K, false, PLAN_SPACING, UINT64_MAX, to->plan, sizeof to->plan);
 }
 
 static double now(void)
@@ -166,7 +173,8 @@ int main(void)
 
     for (size_t i = 0; i < sizeof bits; i++)
         bits[i] = (uint8_t)(i * 2654435761u >> 13);
-    printf("entry    K, g  count    plain/s   proved/s   ratio  quartiles   (millions; frames, octets or CPs)\n");
+    printf("entry    K, g  count    plain/s   proved/s   ratio  quartiles"
+           "   (millions; frames, octets, CPs or plans)\n");
     frames("send", send_call);
     frames("receive", receive_call);
     for (int n = 0; n < 3; n++) {
@@ -179,5 +187,6 @@ int main(void)
         measure("write_cp", g, 1, write_call, 1000);
     }
     measure("send_dil", 0, V91_DIL_OCTETS, dil_call, 1000);
+    measure("plan", PLAN_K, 1, plan_call, 1000);
     return 0;
 }

@@ -27,13 +27,14 @@ import dil
 import forms
 import frames
 import linear
+import plan
 import record
 from samples import Draw, a_record, a_sparse_record, a_state, faulty_record
 
-RECORD_BYTES, STATE_BYTES = 105, 5
+RECORD_BYTES, STATE_BYTES, PLAN_BYTES = 105, 5, 24
 DIL_OCTETS = dil.length(dil.TABLE_5)
 
-# The parameters of each entry; all but a_law and the counts are buffers: a pointer and a length.
+# The parameters of each entry; all but a_law and the numbers are buffers: a pointer and a length.
 ENTRIES = {
     "read_cp": ("cp", "bit_count", "record"),
     "write_cp": ("record", "cp"),
@@ -41,9 +42,11 @@ ENTRIES = {
     "receive": ("record", "a_law", "frames", "octets", "bits", "marks", "state"),
     "linear": ("a_law", "octets", "samples"),
     "send_dil": ("a_law", "octets"),
+    "plan": ("k", "a_law", "spacing", "ceiling", "plan"),
 }
-KINDS = list(ENTRIES)  # in the order of forms.py, which has no cases of the last
-NUMBERS = {"a_law": ctypes.c_bool, "frames": ctypes.c_size_t, "bit_count": ctypes.c_size_t}
+KINDS = list(ENTRIES)  # in the order of forms.py, which has no cases of the last two
+NUMBERS = {"a_law": ctypes.c_bool, "frames": ctypes.c_size_t, "bit_count": ctypes.c_size_t,
+           "k": ctypes.c_uint32, "spacing": ctypes.c_uint32, "ceiling": ctypes.c_uint64}
 
 REFUSALS = {
     "read_cp": {*range(1, 12), 17, 25},
@@ -52,6 +55,7 @@ REFUSALS = {
     "receive": {4, *range(9, 18), 25},
     "linear": {17},
     "send_dil": {17},
+    "plan": {17, 26, 27, 28},
 }
 PAIRS = {
     "read_cp": cases_cp.pairs(cases_cp.READER_NUMBERS),
@@ -60,6 +64,7 @@ PAIRS = {
     "receive": cases_frames.pairs(),
     "linear": [],
     "send_dil": [],
+    "plan": [(26, 27), (26, 28), (26, 17), (27, 17), (28, 17)],
 }
 FAULTY = {  # how the reference makes a case in which given refusals hold, and which it can
     "read_cp": (cases_cp.faulty_sequence, cases_cp.READER_NUMBERS),
@@ -155,8 +160,17 @@ def want_send_dil(a_law, octets):
     return answer_to(refusal) or DIL_OCTETS, {"octets": after}
 
 
+def want_plan(k, a_law, spacing, ceiling, buffer):
+    refusal, _, total, mask = plan.plan(k, a_law, spacing, ceiling)
+    if refusal:
+        return answer_to(refusal), {}
+    if len(buffer) < PLAN_BYTES:
+        return 17, {}
+    return 0, {"plan": struct.pack("<QQQ", mask % 2**64, mask >> 64, total) + buffer[PLAN_BYTES:]}
+
+
 WANT = {"read_cp": want_read_cp, "write_cp": want_write_cp, "send": want_send,
-        "receive": want_receive, "linear": want_linear, "send_dil": want_send_dil}
+        "receive": want_receive, "linear": want_linear, "send_dil": want_send_dil, "plan": want_plan}
 
 
 # The codec under test
@@ -492,11 +506,45 @@ class Test:
             for law in (0, 1):
                 self.call("send_dil", law, self.some(length))
 
+    def a_rate(self):
+        """K: mostly 15 to 42, at times just outside or with bits above those, rarely any number."""
+        draw, inside = self.draw, self.draw.between(15, 42)
+        above = inside + 256 * draw.between(1, 2**24 - 1)
+        return draw.pick((14, 43, above, draw.bits(draw.between(1, 32)), *[inside] * 28))
+
+    def a_spacing(self, largest):
+        """A spacing: mostly about the largest that a mask keeps or below it, at times any number."""
+        draw = self.draw
+        below = [draw.below(largest + 1) for _ in range(3)]
+        edge = draw.pick((0, 65535, 65536, 2**32 - 1, draw.bits(draw.between(1, 32))))
+        return draw.pick((1, max(largest - 1, 0), largest, largest, largest + 1, *below,
+                          draw.bits(draw.between(1, 16)), edge))
+
+    def a_ceiling(self, total):
+        """A ceiling: the least sum, just below and above it, the least and the largest, any number."""
+        draw, most = self.draw, plan.MOST_CEILING
+        return draw.pick((total, total, max(total - 1, 0), total + 1, draw.below(total + 1), 0, most, most,
+                          draw.bits(draw.between(1, 64)), total % 2**32, total + 2**32))
+
+    def planning(self):
+        """Masks for a wanted rate, in buffers of 0 to 40 bytes."""
+        draw, law, k = self.draw, self.draw.below(2), self.a_rate()
+        largest = plan.largest_spacing(k, law, plan.MOST_CEILING)
+        for _ in range(8):
+            spacing = self.a_spacing(largest)
+            ceiling = self.a_ceiling(plan.plan(k, law, spacing, plan.MOST_CEILING)[2])
+            room = draw.pick((PLAN_BYTES, PLAN_BYTES, PLAN_BYTES - 1, draw.below(41),
+                              draw.between(PLAN_BYTES, 40)))
+            if k < 64:
+                held = [refusal.number for refusal in plan.faults(k, law, spacing, ceiling)]
+                self.held["plan"].update(combinations(held + [17] * (room < PLAN_BYTES), 2))
+            self.call("plan", k, law, spacing, ceiling, self.some(room))
+
     def run(self):
         """All calls."""
         often = [self.a_run] * 40 + [self.marked] * 6 + [self.refused] * 6 + [self.flipped] * 6
         rarely = [self.bad_buffers, self.edges, self.sparse] * 2 + [self.listed]
-        rarely += [self.samples] * 6 + [self.learning]
+        rarely += [self.samples] * 6 + [self.learning] + [self.planning] * 3
         try:
             self.longest()
             while True:

@@ -10,7 +10,7 @@
 enum { STACK = 1 << 16, PAINT = 0xa5 };
 
 static uint8_t record[V91_RECORD_BYTES], cp[V91_CP_BYTES], state[V91_STATE_BYTES], marks[V91_FRAMES];
-static uint8_t bits[V91_FRAMES_DATA_BYTES], octets[V91_FRAMES_OCTETS];
+static uint8_t bits[V91_FRAMES_DATA_BYTES], octets[V91_FRAMES_OCTETS], mask_and_sum[V91_PLAN_BYTES];
 static int32_t samples[V91_FRAMES_OCTETS];
 static uint32_t answer;
 
@@ -28,6 +28,7 @@ static void receive(void)
 }
 static void linear(void) { answer = v91_linear(true, octets, sizeof octets, samples, V91_FRAMES_OCTETS); }
 static void send_dil(void) { answer = v91_send_dil(true, octets, sizeof octets); }
+static void plan(void) { answer = v91_plan(42, true, 16, UINT64_MAX, mask_and_sum, sizeof mask_and_sum); }
 
 static size_t used_by(void (*call)(void))
 {
@@ -74,5 +75,6 @@ int main(void)
     show("v91_receive", receive, 0);
     show("v91_linear", linear, 0);
     show("v91_send_dil", send_dil, V91_DIL_OCTETS);
+    show("v91_plan", plan, 0);
     return 0;
 }

@@ -26,7 +26,7 @@
  * calls a function has to save them; so is the red zone, 128 bytes below the stack pointer. Measured by
  * interop/footprint in calls of 1,024 frames with six full masks, the red zone included: 19,993 bytes of
  * code and 688 of constants; of stack 576 bytes (v91_write_cp), 688 (v91_read_cp), 2,640 (v91_send), 2,576
- * (v91_receive), 8 (v91_linear) and 144 (v91_send_dil).
+ * (v91_receive), 8 (v91_linear), 144 (v91_send_dil) and ? (v91_plan).
  */
 #ifndef V91_H
 #define V91_H
@@ -40,7 +40,7 @@ extern "C" {
 #endif
 
 /* Raised where a function is added, or a function, a layout or an answer changes. */
-#define V91_VERSION 2
+#define V91_VERSION 3
 
 /* ---- refusals */
 
@@ -62,11 +62,14 @@ enum v91_refusal {
     V91_HISTORY_TOO_LARGE = 14,      /* the history is 2^23 or more */
     V91_TOO_MANY_FRAMES = 15,        /* there are more than 1,024 frames */
     V91_INPUT_TOO_SHORT = 16,        /* a buffer to be read is shorter than needed */
+    V91_RATE_OR_SPACING_OUTSIDE = 26,/* K is outside 15 to 42, or the spacing outside 1 to 65,535 */
+    V91_NO_MASK = 27,                /* no mask of M points keeps the spacing */
+    V91_SUM_EXCEEDS_CEILING = 28,    /* the least sum of squares exceeds the ceiling */
     V91_OUTPUT_TOO_SHORT = 17        /* a buffer to be written is shorter than needed */
 };
 
-/* Whether an answer is a refusal: it is 1 to 17, or 25 + (interval << 24). Else it is 0, the bit count of
-   v91_write_cp, which is 294 to 972, or the 1,500 octets of v91_send_dil. */
+/* Whether an answer is a refusal: it is 1 to 17, 26 to 28, or 25 + (interval << 24). Else it is 0, the bit count
+   of v91_write_cp, which is 294 to 972, or the 1,500 octets of v91_send_dil. */
 #define V91_REFUSED(answer) ((answer) != 0 && ((answer) < 294 || (answer) >= 1u << 24))
 
 /* Of an answer that is a refusal: its number; and with V91_INTERVAL_EMPTY the lowest such interval, 0 to 5. */
@@ -87,6 +90,12 @@ enum v91_refusal {
 #define V91_STATE_BYTES 5
 #define V91_STATE_HISTORY 0                                  /* 4 bytes */
 #define V91_STATE_SIGN 4
+
+/* ---- a plan: one mask, and the sum of the squared linear values of its points */
+
+#define V91_PLAN_BYTES 24
+#define V91_PLAN_MASK 0                                      /* 16 bytes: Ucodes 0 to 63, then 64 to 127 */
+#define V91_PLAN_SUM 16                                      /* 8 bytes */
 
 /* ---- lengths */
 
@@ -133,6 +142,13 @@ uint32_t v91_linear(bool a_law, const uint8_t *octets, size_t octets_len,
 
 /* Writes the default DIL of V.91 Table 5, the whole sequence once. Answers its 1,500 octets, or 17. */
 uint32_t v91_send_dil(bool a_law, uint8_t *octets, size_t octets_len);
+
+/* Finds one mask for all six intervals with M points, M the least number with M^6 at least 2^K. Neighbouring
+   linear values differ by at least the spacing, twice the smallest is at least the spacing, and of all such masks
+   the sum of the squared linear values is least. Writes 24 bytes: the mask's two halves of 8 bytes, low byte
+   first, as in a record, then that sum. Answers 0 or a refusal, which changes no byte: 26, 27, 28, and 17 last.
+   In a record for it all six intervals name this mask and drn is K - 14. */
+uint32_t v91_plan(uint32_t k, bool a_law, uint32_t spacing, uint64_t ceiling, uint8_t *plan, size_t plan_len);
 
 #ifdef __cplusplus
 }

@@ -8,17 +8,21 @@ written, and `<` or `>` without a command before or a file after it.
 
 import re
 
+from cp import write_cp
 from describe import (DOUBTFUL, counted, demo_lines, description, example_cp, read_file,
                       refusal_sentence, shown)
 from dil import TABLE_5, length as dil_length, send_dil
 from frames import (FRESH, MOST_FRAMES, add_bits, data_bytes, frame_bits, get_bits, receive_frame,
                     send_frame)
 from linear import linear
+from picture import LAW_NAMES, Picture, found_line, svg_lines, text_lines
+from plan import MOST_CEILING, RATES, SPACINGS, largest_spacing, plan, points_wanted
+from record import make
 from table1 import A, MU
 
 LAWS = {"mu": MU, "ulaw": MU, "a": A, "alaw": A}
 MOST_RUNS = 20
-VERSION = "v91 2"
+VERSION = "v91 3"
 HELP = ("help", "--help", "-h")
 
 NO_FILE = "there is no such file"
@@ -69,11 +73,16 @@ def check_options(command, words, taken):
         raise Failed(f"after LAW {command} takes the {kind} {' and '.join(taken)} alone")
 
 
+def is_number(word):
+    """Whether a word is a number of 1 to 18 digits."""
+    return bool(re.fullmatch("[0-9]{1,18}", word))
+
+
 def bytes_wanted(words):
     """BYTES, the last number among the words that follow LAW; None where there is none."""
     wanted = None
     for word in words:
-        if re.fullmatch("[0-9]{1,18}", word):
+        if is_number(word):
             wanted = int(word)
         elif word.lower() != "progress":
             raise Failed("after LAW receive takes BYTES, a number of 1 to 18 digits, "
@@ -234,6 +243,97 @@ def receive(call, cp_name, law_name, *options):
         raise Failed(f"the input ended {counted(wanted - len(data), 'byte')} of data too early")
 
 
+# Planning
+
+def bounds(numbers):
+    """The bounds of a range in words."""
+    return f"{numbers[0]} to {numbers[-1]}"
+
+
+def number_for(name, numbers, word):
+    """The number that a word gives; whether it is one of those wanted is not judged here."""
+    if not is_number(word):
+        raise Failed(f"{name} is a number from {bounds(numbers)}, not {shown(word)}")
+    return int(word)
+
+
+def check_ceiling(word):
+    """Stop unless the word is a number; it may have any number of digits."""
+    if not re.fullmatch("[0-9]+", word):
+        raise Failed(f"CEILING is a number, not {shown(word)}")
+
+
+def form_named(words):
+    """The form of the answer, svg or cp; None where there is no word."""
+    if not words:
+        return None
+    form = words[0].lower()
+    if form not in ("svg", "cp"):
+        raise Failed(f"after CEILING there may be the word svg or cp, not {shown(words[0])}")
+    return form
+
+
+def outside_sentence(k, spacing):
+    """What is said of refusal 26."""
+    if k not in RATES:
+        return f"K is {k}; it is {bounds(RATES)}"
+    return f"the spacing is {spacing}; it is {bounds(SPACINGS)}"
+
+
+def no_mask_sentence(k, law, spacing):
+    """What is said of refusal 27."""
+    none = f"no mask of {points_wanted(k)} points keeps"
+    largest = largest_spacing(k, law, MOST_CEILING)
+    if not largest:
+        return f"{none} any spacing in {LAW_NAMES[law]}, where Ucode 0 has the value 0"
+    return f"{none} the spacing {spacing}; the largest spacing that one keeps is {largest}"
+
+
+def ceiling_sentence(k, law, spacing, ceiling):
+    """What is said of refusal 28."""
+    total = plan(k, law, spacing, MOST_CEILING)[2]
+    largest = largest_spacing(k, law, int(ceiling))
+    within = f"the largest spacing within it is {largest}" if largest else "no spacing is within it"
+    return (f"the least sum of squares at spacing {spacing} is {total}, above the ceiling "
+            f"{ceiling}; {within}")
+
+
+def plan_sentence(number, k, law, spacing, ceiling):
+    """What is said of a plan that is refused."""
+    if number == 26:
+        sentence = outside_sentence(k, spacing)
+    elif number == 27:
+        sentence = no_mask_sentence(k, law, spacing)
+    else:
+        sentence = ceiling_sentence(k, law, spacing, ceiling)
+    return f"{sentence} (refusal {number})"
+
+
+def cp_for(k, mask):
+    """The CP with a mask in all intervals at the rate of K."""
+    return write_cp(make(0, k - 14, 0, [0] * 6, [mask]), bytes(37))[2]
+
+
+def write_plan(call, k_word, law_name, spacing_word, ceiling, *words):
+    """`plan K LAW SPACING CEILING [svg|cp]`."""
+    k, law = number_for("K", RATES, k_word), law_named(law_name)
+    spacing = number_for("SPACING", SPACINGS, spacing_word)
+    check_ceiling(ceiling)
+    form = form_named(words)
+    refusal, _, total, mask = plan(k, law, spacing, int(ceiling))
+    if refusal:
+        raise Failed(plan_sentence(refusal.number, k, law, spacing, ceiling))
+    picture = Picture(k, law, spacing, ceiling, total, mask)
+    if not form:
+        call.write_lines(text_lines(picture))
+        return
+    if form == "svg":
+        call.write_lines(svg_lines(picture))
+    else:
+        call.write(cp_for(k, mask))
+    call.say(found_line(picture))
+
+
 # The other commands
 
 def tell_cp(call, name):
@@ -272,8 +372,8 @@ def tell_version(call):
 
 # Each command with the least and the most words after it.
 COMMANDS = {"cp": (tell_cp, 1, 1), "send": (send, 2, 4), "receive": (receive, 2, 4),
-            "linear": (tell_linear, 1, 2), "dil": (write_dil, 1, 1), "demo": (demo, 0, 1),
-            "--version": (tell_version, 0, 0)}
+            "linear": (tell_linear, 1, 2), "dil": (write_dil, 1, 1), "plan": (write_plan, 4, 5),
+            "demo": (demo, 0, 1), "--version": (tell_version, 0, 0)}
 
 
 # The script

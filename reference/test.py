@@ -1,14 +1,19 @@
 """Tests of the model: `python3 reference/test.py` prints a line for each group, then 'ok'.
 
 With -v it also says how many stored cases, rows of Table 1 and lines of the DIL each wrong codec
-fails, and at which line of the stored run each wrong program first differs.
+fails, how many stored lines of plans each wrong planner, and at which line of the stored run each
+wrong program first differs.
 """
 
 import re
 import sys
 import traceback
+from bisect import bisect_left
+from contextlib import ExitStack, contextmanager
+from functools import lru_cache
 from itertools import product, zip_longest
 from unittest.mock import patch
+from xml.etree import ElementTree
 
 import cases_cp
 import cases_frames
@@ -17,6 +22,8 @@ import describe
 import dil
 import forms
 import frames
+import picture
+import plan
 import program
 import record as records
 import trial
@@ -26,8 +33,8 @@ from linear import linear
 from record import EMPTY, EXAMPLE, FULL_MASK, k_of, make, mask_of
 from refusals import ORDER, Refusal, in_order
 from samples import TWO_EMPTY, Draw, a_record, a_sparse_record, a_state
-from table1 import (A, MU, linear_of, octet_by_rule, octet_of, rows, ucode_of, value_by_rule,
-                    value_of)
+from table1 import (A, LINEAR, MU, linear_of, octet_by_rule, octet_of, rows, ucode_of,
+                    value_by_rule, value_of)
 
 
 def check(holds, what):
@@ -326,6 +333,7 @@ def stored_answers():
     check(sum(map(len, texts)) < 1_500_000, "size of vectors_frames")
     check(stored_text("vectors_pcm/stdout").count("\n") == 512, "lines of vectors_pcm")
     check(stored_text("vectors_dil/stdout").count("\n") == 885, "lines of vectors_dil")
+    check(stored_text("vectors_plan/stdout").count("\n") == 1088, "lines of vectors_plan")
     return f"{len(both)} cases"
 
 
@@ -533,6 +541,189 @@ def default_dil():
     each_segment()
     dil_buffers()
     return "125 segments in each law, 18 buffers"
+
+
+# Masks for a wanted rate (A.10)
+
+MOST = plan.MOST_CEILING
+
+# Values that rise, with 0 and without it, near each other and apart.
+SHORT_LISTS = (LINEAR[MU][:12], LINEAR[A][:12], LINEAR[MU][26:38], LINEAR[A][116:],
+               LINEAR[MU][::11], LINEAR[A][5::11], (0, 1, 2, 3, 5, 8, 13, 21, 34, 55, 89, 144))
+
+
+def plan_sizes():
+    """M of each K: the least number with M^6 at least 2^K, by halving."""
+    for k in range(61):
+        wanted = bisect_left(range(2000), 2**k, key=lambda m: m**6)
+        same(plan.points_wanted(k), wanted, f"M for K = {k}")
+    same([plan.points_wanted(k) for k in (14, 15, 16, 17, 18, 19, 24, 36, 41, 42, 43)],
+         [6, 6, 7, 8, 8, 9, 16, 64, 115, 128, 144], "M by hand")
+    return "K = 0 to 60"
+
+
+def chosen(values, mask):
+    """The values that a mask has, rising."""
+    return [value for u, value in enumerate(values) if mask >> u & 1]
+
+
+def smallest_gap(points):
+    """The largest spacing that points keep: of the two signs of the smallest, and of neighbours."""
+    return min([2 * points[0], *(high - low for low, high in zip(points, points[1:]))])
+
+
+def sum_of(points):
+    """The sum of squares."""
+    return sum(value**2 for value in points)
+
+
+def every_mask(values):
+    """(Smallest gap, number of points, sum, mask) of each mask that is not empty."""
+    made = []
+    for mask in range(1, 1 << len(values)):
+        points = chosen(values, mask)
+        made.append((smallest_gap(points), len(points), sum_of(points), mask))
+    return made
+
+
+def some_spacings(draw, gaps):
+    """Spacings: those about each gap that some mask has, and others."""
+    edges = {gap + more for gap in gaps for more in (-1, 0, 1)}
+    near = [draw.between(1, max(edges)) for _ in range(20)]
+    return sorted(spacing for spacing in {1, 2, 65535, *edges, *near} if spacing >= 1)
+
+
+def least_by_trying(masks, spacing):
+    """For each number of points the least sum and its mask, of all masks that keep the spacing."""
+    found = {}
+    for gap, size, total, mask in masks:
+        if gap >= spacing:
+            found.setdefault(size, []).append((total, mask))
+    for size, those in found.items():
+        those.sort()
+        check([total for total, _ in those].count(those[0][0]) == 1, "two masks of least sum")
+        found[size] = those[0]
+    return found
+
+
+def plan_least():
+    """The table's answer is the least of all masks of 12 Ucodes, and the only such mask."""
+    draw, tried = Draw(8), 0
+    for values in SHORT_LISTS:
+        masks = every_mask(values)
+        for spacing in some_spacings(draw, {gap for gap, *_ in masks}):
+            found = least_by_trying(masks, spacing)
+            for points in range(1, 14):
+                same(plan.least(values, spacing, points), found.get(points),
+                     f"{points} points of {values} with spacing {spacing}")
+                tried += 1
+    return f"{len(SHORT_LISTS)} lists of 12 values, {tried} searches"
+
+
+def lowest_first(values, spacing, points):
+    """The lowest Ucode that keeps the spacing, again and again: least point by point."""
+    mask, floor = 0, spacing / 2
+    for u, value in enumerate(values):
+        if value >= floor and mask.bit_count() < points:
+            mask |= 1 << u
+            floor = value + spacing
+    return (sum_of(chosen(values, mask)), mask) if mask.bit_count() == points else None
+
+
+def a_mask_that_keeps(draw, values, spacing, points):
+    """A mask that keeps the spacing, with Ucodes left out at random; None where it has too few."""
+    mask, floor, left_out = 0, spacing / 2, draw.pick((0, 1, 2, 4))
+    for u, value in enumerate(values):
+        if value >= floor and mask.bit_count() < points and draw.below(16) >= left_out:
+            mask |= 1 << u
+            floor = value + spacing
+    return mask if mask.bit_count() == points else None
+
+
+def a_spacing(draw, k, law):
+    """A spacing: mostly one that a mask can keep, and about the largest such."""
+    largest = plan.largest_spacing(k, law, MOST)
+    return draw.pick((draw.between(1, max(largest, 1)), draw.between(1, max(largest, 1)),
+                      max(largest, 1), largest + 1, draw.between(1, 65535)))
+
+
+def plan_answers():
+    """Answers are as asked for, no mask drawn has a smaller sum, and ceilings at the edge."""
+    draw, given, drawn = Draw(9), 0, 0
+    for n in range(700):
+        k, law = 15 + n % 28, draw.below(2)
+        spacing, points, values = a_spacing(draw, k, law), plan.points_wanted(k), LINEAR[law]
+        what = f"K = {k}, law {law}, spacing {spacing}"
+        refusal, size, total, mask = plan.plan(k, law, spacing, MOST)
+        same(plan.least_in(law, spacing, points), lowest_first(values, spacing, points), what)
+        if refusal:
+            same((refusal, size, total, mask), (Refusal(27), 0, 0, 0), what)
+            continue
+        given += 1
+        same((size, mask.bit_count(), mask >> 128), (points, points, 0), f"points, {what}")
+        same(total, sum_of(chosen(values, mask)), f"sum, {what}")
+        check(smallest_gap(chosen(values, mask)) >= spacing, f"spacing not kept, {what}")
+        others = [a_mask_that_keeps(draw, values, spacing, points) for _ in range(4)]
+        for other in filter(None, others):
+            check(sum_of(chosen(values, other)) >= total, f"a smaller sum, {what}")
+            drawn += other != mask
+        for ceiling in (total, total + 1, draw.between(total, MOST)):
+            same(plan.plan(k, law, spacing, ceiling), (None, size, total, mask), what)
+        for ceiling in (0, total - 1, draw.below(total)):
+            same(plan.plan(k, law, spacing, ceiling), (Refusal(28), 0, 0, 0), what)
+    check(drawn > 300, f"masks drawn: {drawn}")
+    return f"700 calls, {given} with a mask, {drawn} other masks"
+
+
+def plan_ranges():
+    """Refusal 26, its place before the others, and mu-law at K = 42."""
+    for law in (MU, A):
+        for k in (0, 1, 14, 43, 255, 2**32 - 1, 10**18 - 1):
+            for spacing in (0, 1, 100, 65535, 65536, 2**32 - 1):
+                same(plan.plan(k, law, spacing, MOST), (Refusal(26), 0, 0, 0), f"K = {k}")
+        for k in plan.RATES:
+            for spacing in (0, 65536, 65537, 2**32 - 1, 2**32 + 1, 10**18 - 1):
+                same(plan.plan(k, law, spacing, MOST), (Refusal(26), 0, 0, 0), f"{spacing}")
+            same(plan.plan(k, law, 65535, MOST), (Refusal(27), 0, 0, 0), "spacing 65535")
+        same([fault.number for fault in plan.faults(43, law, 1, 0)], [26, 27], "K = 43")
+        same([fault.number for fault in plan.faults(15, law, 65536, 0)], [26, 27], "65536")
+        same([fault.number for fault in plan.faults(14, law, 1, 0)], [26, 28], "K = 14")
+    for spacing in (*range(1, 40), 100, 600, 4096, 65535):
+        same(plan.plan(42, MU, spacing, MOST)[0], Refusal(27), "mu-law at K = 42")
+        whole = (None, 128, sum_of(LINEAR[A]), FULL_MASK)
+        wanted = whole if spacing <= 16 else (Refusal(27), 0, 0, 0)
+        same(plan.plan(42, A, spacing, MOST), wanted, "A-law at K = 42")
+    return "K and spacings about their ranges, K = 42"
+
+
+def plan_largest():
+    """Up to the largest spacing none is refused, above it each one; 0 where there is none."""
+    draw, ceilings = Draw(10), 0
+    for k, law in product(range(14, 44), (MU, A)):
+        for ceiling in (MOST, 10 ** draw.between(3, 11), draw.below(2**34)):
+            largest = plan.largest_spacing(k, law, ceiling)
+            good = {1, largest, draw.between(1, max(largest, 1))} if largest else set()
+            for spacing in (*good, largest + 1, draw.between(largest + 1, 65535), 65535):
+                refused = plan.plan(k, law, spacing, ceiling)[0] is not None
+                same(refused, spacing > largest, f"K = {k}, law {law}, {spacing}, {ceiling}")
+            ceilings += 1
+    same([plan.largest_spacing(*case, MOST) for case in product((14, 15, 18, 42, 43), (MU, A))],
+         [0, 0, 5496, 5568, 4096, 4096, 0, 16, 0, 0], "largest spacings by hand")
+    return f"{ceilings} ceilings"
+
+
+def stored_plans():
+    """The stored lines have each K in each law, and each refusal that it can have."""
+    found = {}
+    for line in stored_text("vectors_plan/stdout").splitlines():
+        k, law, *rest = line.split(" ")
+        if rest[0] != "largest":
+            found.setdefault((int(k), law), set()).add(int(rest[2]))
+    wanted = {(k, law): {0, 26, 27, 28} for k, law in product(plan.RATES, ("mu", "a"))}
+    wanted |= {(k, law): {26} for k, law in product((14, 43), ("mu", "a"))}
+    wanted[42, "mu"] = {26, 27}
+    same(found, wanted, "refusals of each K and law")
+    return f"{len(found)} of K and law"
 
 
 # Wrong codecs
@@ -1124,16 +1315,19 @@ def failed_rows(stored):
     return sum(row != other for row, other in zip_longest(stored, made))
 
 
+@contextmanager
+def changed(changes):
+    """The model with some of its names changed."""
+    with ExitStack() as stack:
+        for name, value in changes.items():
+            stack.enter_context(patch(name, value))
+        yield
+
+
 def stopped(changes, both, stored):
     """How many stored cases, rows and lines a wrong codec, given by what it changes, fails."""
-    changed = [patch(name, value) for name, value in changes.items()]
-    for each in changed:
-        each.start()
-    try:
+    with changed(changes):
         return sum(forms.answer(case) != answer for case, answer in both) + failed_rows(stored)
-    finally:
-        for each in changed:
-            each.stop()
 
 
 def wrong_codecs():
@@ -1145,6 +1339,223 @@ def wrong_codecs():
             print(f"    {name}: fails {count} of {len(both) + len(stored)}")
     check(all(found.values()), f"not stopped: {[name for name in found if not found[name]]}")
     same(stopped({}, both, stored), 0, "the model itself")
+    return f"{len(found)} stopped"
+
+
+# Wrong planners
+
+RIGHT_PLAN = {name: getattr(plan, name)
+              for name in ("faults", "far_below", "largest_spacing", "least", "least_in", "plan",
+                           "points_wanted")}
+
+
+def searched_with(**parts):
+    """The changes that give the search other parts; of what was found before nothing is kept."""
+    afresh = lru_cache(maxsize=None)(plan.least_in.__wrapped__)
+    return {"plan.least_in": afresh} | {f"plan.{name}": part for name, part in parts.items()}
+
+
+def smallest_if(kept):
+    """The changes that put another rule on the smallest value."""
+    return searched_with(sums_of_one=lambda values, spacing:
+                         [value**2 if kept(value, spacing) else plan.NO_MASK for value in values])
+
+
+def more_than_spacing(values, spacing):
+    """Neighbouring values differ by more than the spacing."""
+    return [bisect_left(values, value - spacing, 0, u) for u, value in enumerate(values)]
+
+
+def ucodes_apart(values, spacing):
+    """Neighbouring Ucodes, and not their values, differ by the spacing."""
+    return [max(u - spacing + 1, 0) for u in range(len(values))]
+
+
+def highest_first(values, spacing, points):
+    """The highest Ucode that keeps the spacing, again and again."""
+    mask, most = 0, values[-1]
+    for u in reversed(range(len(values))):
+        if values[u] <= most and 2 * values[u] >= spacing and mask.bit_count() < points:
+            mask |= 1 << u
+            most = values[u] - spacing
+    return (sum_of(chosen(values, mask)), mask) if mask.bit_count() == points else None
+
+
+def on_a_grid(values, spacing, points):
+    """The lowest Ucodes from 1/2, 3/2, 5/2 and so on of the spacing on."""
+    floors = [(2 * n + 1) * spacing / 2 for n in range(points)]
+    mask = sum(1 << u for u in {bisect_left(values, floor) for floor in floors})
+    most = 1 << len(values)
+    return (sum_of(chosen(values, mask)), mask) if mask < most else None
+
+
+def found_with(change):
+    """The changes that make something else of the sum and the mask found."""
+    def least(values, spacing, points):
+        found = RIGHT_PLAN["least"](values, spacing, points)
+        return found and change(values, *found)
+    return searched_with(least=least)
+
+
+def sum_by(made):
+    """The changes that give another sum, made from the points and their sum of squares."""
+    return found_with(lambda values, total, mask: (made(chosen(values, mask), total), mask))
+
+
+def mask_by(made):
+    """The changes that give another mask, made from the right one."""
+    return found_with(lambda values, total, mask: (total, made(mask)))
+
+
+def ranges(rates=plan.RATES, spacings=plan.SPACINGS):
+    """The changes that give 26 other ranges of K and spacing."""
+    def faults(k, law, spacing, ceiling):
+        if k not in rates or spacing not in spacings:
+            yield Refusal(26)
+        yield from without(RIGHT_PLAN["faults"], 26)(k, law, spacing, ceiling)
+    return {"plan.faults": faults}
+
+
+def refused_if(exceeds):
+    """The changes that give 28 another comparison of sum and ceiling."""
+    def faults(k, law, spacing, ceiling):
+        yield from without(RIGHT_PLAN["faults"], 28)(k, law, spacing, ceiling)
+        found = plan.least_in(law, spacing, plan.points_wanted(k))
+        if found and exceeds(found[0], ceiling):
+            yield Refusal(28)
+    return {"plan.faults": faults}
+
+
+def told_as(number, other):
+    """The changes that give a refusal another number."""
+    return {"plan.faults": lambda *args: (Refusal(other) if fault.number == number else fault
+                                          for fault in RIGHT_PLAN["faults"](*args))}
+
+
+def left_after_refusal(place):
+    """The changes that leave M, sum or mask, by its place in the answer, after a refusal."""
+    def planned(k, law, spacing, ceiling):
+        answer = list(RIGHT_PLAN["plan"](k, law, spacing, ceiling))
+        if answer[0]:
+            points = plan.points_wanted(k)
+            found = plan.least_in(law, spacing, points) or (0, 0)
+            answer[place] = (answer[0], points, *found)[place]
+        return tuple(answer)
+    return {"plan.plan": planned}
+
+
+def largest_by(change):
+    """The changes that make another largest spacing from the right one."""
+    return {"plan.largest_spacing": lambda *args: change(RIGHT_PLAN["largest_spacing"](*args))}
+
+
+def other_law(law, spacing, points):
+    """The values of the other law."""
+    return RIGHT_PLAN["least_in"](1 - law, spacing, points)
+
+
+def mirrored(mask):
+    """The mask with Ucode 0 in the top bit."""
+    return int(f"{mask:0128b}"[::-1], 2)
+
+
+WRONG_PLANNERS = {
+    "twice the smallest value not looked at": smallest_if(lambda value, spacing: True),
+    "twice the smallest value above the spacing":
+        smallest_if(lambda value, spacing: 2 * value > spacing),
+    "the smallest value at least the spacing": smallest_if(lambda value, spacing: value >= spacing),
+    "half the spacing rounded down": smallest_if(lambda value, spacing: value >= spacing // 2),
+    "the smallest value above 0": smallest_if(lambda value, spacing: value > 0),
+    "values more than the spacing apart": searched_with(far_below=more_than_spacing),
+    "values half the spacing apart": searched_with(far_below=lambda values, spacing:
+                                                   RIGHT_PLAN["far_below"](values, spacing // 2)),
+    "values twice the spacing apart": searched_with(far_below=lambda values, spacing:
+                                                    RIGHT_PLAN["far_below"](values, 2 * spacing)),
+    "Ucodes the spacing apart": searched_with(far_below=ucodes_apart),
+    "neighbours not looked at": searched_with(far_below=lambda values, spacing:
+                                              range(len(values))),
+    "highest Ucodes first": searched_with(least=highest_first),
+    "points on a grid": searched_with(least=on_a_grid),
+    "Ucodes 0 to 63 alone": searched_with(least=lambda values, spacing, points:
+                                          RIGHT_PLAN["least"](values[:64], spacing, points)),
+    "Ucodes 0 to 126 alone": searched_with(least=lambda values, spacing, points:
+                                           RIGHT_PLAN["least"](values[:127], spacing, points)),
+    "a point less": {"plan.points_wanted": lambda k: RIGHT_PLAN["points_wanted"](k) - 1},
+    "a point more": {"plan.points_wanted": lambda k: RIGHT_PLAN["points_wanted"](k) + 1},
+    "M^6 above 2^K": {"plan.points_wanted": lambda k:
+                      next(m for m in range(2000) if m**6 > 2**k)},
+    "M rounded to the nearest": {"plan.points_wanted": lambda k: round(2 ** (k / 6))},
+    "M a power of 2": {"plan.points_wanted": lambda k: 2 ** -(-k // 6)},
+    "M for the bits of a frame": {"plan.points_wanted": lambda k:
+                                  RIGHT_PLAN["points_wanted"](k + 6)},
+    "sum over both signs": sum_by(lambda points, total: 2 * total),
+    "sum over six intervals": sum_by(lambda points, total: 6 * total),
+    "sum of values not squared": sum_by(lambda points, total: sum(points)),
+    "mean of the squares": sum_by(lambda points, total: total // len(points)),
+    "sum without the largest": sum_by(lambda points, total: sum_of(points[:-1])),
+    "sum of 32 bits": sum_by(lambda points, total: total % 2**32),
+    "ceiling the wrong way": refused_if(lambda total, ceiling: total < ceiling),
+    "sum equal to the ceiling refused": refused_if(lambda total, ceiling: total >= ceiling),
+    "ceiling not looked at": refused_if(lambda total, ceiling: False),
+    "ceiling of 32 bits": refused_if(lambda total, ceiling: total > ceiling % 2**32),
+    "ceiling on a sum of 32 bits": refused_if(lambda total, ceiling: total % 2**32 > ceiling),
+    "ceiling on both signs": refused_if(lambda total, ceiling: 2 * total > ceiling),
+    "ceiling on six intervals": refused_if(lambda total, ceiling: 6 * total > ceiling),
+    "26 after 27": {"plan.faults": lambda *args: reversed(list(RIGHT_PLAN["faults"](*args)))},
+    "26 by K alone": ranges(spacings=range(2**32)),
+    "26 by the spacing alone": ranges(rates=range(2**32)),
+    "K = 14 accepted": ranges(rates=range(14, 43)),
+    "K = 15 refused": ranges(rates=range(16, 43)),
+    "K = 42 refused": ranges(rates=range(15, 42)),
+    "K = 43 left to 27": ranges(rates=range(15, 44)),
+    "spacing 0 accepted": ranges(spacings=range(65536)),
+    "spacing 1 refused": ranges(spacings=range(2, 65536)),
+    "spacing 65535 refused": ranges(spacings=range(1, 65535)),
+    "spacing 65536 left to 27": ranges(spacings=range(1, 65537)),
+    "27 told as 28": told_as(27, 28),
+    "28 told as 27": told_as(28, 27),
+    "26 told as 9": told_as(26, 9),
+    "always refused": {"plan.plan": lambda *args: (Refusal(27), 0, 0, 0)},
+    "laws exchanged": {"plan.least_in": other_law},
+    "mu-law alone": {"plan.least_in": lambda law, *rest: RIGHT_PLAN["least_in"](MU, *rest)},
+    "A-law alone": {"plan.least_in": lambda law, *rest: RIGHT_PLAN["least_in"](A, *rest)},
+    "halves of the mask exchanged": mask_by(lambda mask: mask % 2**64 << 64 | mask >> 64),
+    "Ucode 0 in the top bit": mask_by(mirrored),
+    "Ucodes one too high": mask_by(lambda mask: mask << 1),
+    "M left after a refusal": left_after_refusal(1),
+    "sum left after a refusal": left_after_refusal(2),
+    "mask left after a refusal": left_after_refusal(3),
+    "largest spacing one less": largest_by(lambda spacing: max(spacing - 1, 0)),
+    "largest spacing in steps of 16": largest_by(lambda spacing: spacing // 16 * 16),
+    "first spacing refused": largest_by(lambda spacing: spacing + 1),
+}
+
+
+def made_again(line):
+    """A stored line of plans with its answer made again from what is handed in."""
+    k, name, *rest = line.split(" ")
+    k, law = int(k), ("mu", "a").index(name)
+    if rest[0] == "largest":
+        return vectors.largest_line(k, law, name)
+    return vectors.plan_line(k, law, name, int(rest[0]), int(rest[1]))
+
+
+def failed_plans(stored):
+    """How many stored lines of plans have another answer."""
+    return sum(made_again(line) != line for line in stored)
+
+
+def wrong_planners():
+    """Every wrong planner fails at a stored line."""
+    stored, found = stored_text("vectors_plan/stdout").splitlines(keepends=True), {}
+    for name, changes in WRONG_PLANNERS.items():
+        with changed(changes):
+            found[name] = failed_plans(stored)
+    if "-v" in sys.argv:
+        for name, count in found.items():
+            print(f"    {name}: fails {count} of {len(stored)}")
+    check(all(found.values()), f"not stopped: {[name for name in found if not found[name]]}")
+    same(failed_plans(stored), 0, "the model itself")
     return f"{len(found)} stopped"
 
 
@@ -1242,6 +1653,106 @@ def program_sentences():
     return "marks, words, rates, the demo"
 
 
+def a_picture(k, law, spacing):
+    """The picture of a plan that is not refused, with the largest ceiling."""
+    refusal, _, total, mask = plan.plan(k, law, spacing, MOST)
+    same(refusal, None, f"K = {k}, law {law}, spacing {spacing}")
+    return picture.Picture(k, law, spacing, str(MOST), total, mask)
+
+
+def check_text(drawn):
+    """The text of a picture: each point stands in the column nearest to it, gaps add up."""
+    lines, values = picture.text_lines(drawn), picture.values_in(drawn)
+    top = values[-1]
+    same(len(lines), len(values) + 6, "lines of a text")
+    check(all(line == line.rstrip() for line in lines), "spaces at the end of a line")
+    same((lines[3][22], len(lines[3])), ("0", 79), "the scale")
+    gaps = []
+    for value, line in zip(values, lines[5:-1]):
+        shown_value, gap = map(int, line[5:20].split())
+        same(shown_value, value, "a value")
+        check(abs(2 * top * (len(line) - 23) - 112 * value) <= top, f"column of {value} of {top}")
+        gaps.append(gap)
+    same(sum(gaps), top + values[0], "the sum of the gaps")
+    check(min(gaps) >= drawn.spacing, "a gap below the spacing")
+    same(lines[4].index(" the") - 23, picture.column_of(drawn.spacing, top), "the spacing's column")
+
+
+def check_svg(drawn):
+    """An SVG picture: it is well formed, and has a line for each thing that it shows."""
+    lines, values = picture.svg_lines(drawn), picture.values_in(drawn)
+    top = values[-1]
+    root = ElementTree.fromstring("\n".join(lines))
+    groups = list(root)[-4:]
+    texts = [text.text for text in groups[0].iter("{http://www.w3.org/2000/svg}text")]
+    grid = [int(text) for text in texts[2::4]]
+    step = grid[0]
+    same(grid, list(range(step, top + 1, step)), "the grid")
+    check(len(grid) <= 6 and all(top // less > 6 for less in picture.STEPS if less < step), "step")
+    same(len(groups[1]), len(values) + 1, "points on the line")
+    same([[text.text for text in row][:3] for row in groups[3]],
+         [list(map(str, point)) for point in picture.points_in(drawn)], "rows")
+    same(len(lines), 5 + 3 + len(grid) + 3 + len(values) + 4 + 2 + len(values) + 1, "lines")
+
+
+def pictures():
+    """Pictures by hand, and of plans of each K and law."""
+    same([picture.bar(end) for end in (0, 1, 2, 5)], ["|", "||", "|-|", "|----|"], "bars")
+    same([picture.drawing(*case) for case in ((None, 0), (None, 3), (0, 0), (0, 1), (0, 4), (2, 2),
+                                              (2, 3), (2, 5))],
+         ["o", "|--o", "o", "+o", "+---o", "| o", "| +o", "| +--o"], "drawings")
+    same([picture.column_of(*case) for case in ((0, 9), (9, 9), (1, 112), (3, 112), (280, 4480),
+                                                (279, 4480))], [0, 56, 1, 2, 4, 3], "columns")
+    same([picture.length_of(*case) for case in ((0, 9), (9, 9), (1, 7), (8, 32256))],
+         [0, 3900, 557, 0], "lengths")
+    same([picture.step_of(top) for top in (48, 139, 140, 349, 350, 1399, 1400, 6999, 7000, 32256)],
+         [20, 20, 50, 50, 100, 200, 500, 1000, 2000, 5000], "steps")
+    same(picture.gaps_of([56, 164, 276]), [112, 108, 112], "gaps")
+    draw, count = Draw(11), 0
+    for k, law in product(plan.RATES, (MU, A)):
+        largest = plan.largest_spacing(k, law, MOST)
+        for spacing in {1, largest, draw.between(1, largest)} if largest else ():
+            drawn = a_picture(k, law, spacing)
+            check_text(drawn)
+            check_svg(drawn)
+            count += 1
+    return f"parts by hand, {count} plans"
+
+
+def plan_sentences():
+    """What is said of plans, by examples, and the CP that a plan gives."""
+    last = {
+        "14 mu 100 5": "K is 14; it is 15 to 42 (refusal 26)",
+        "0043 mu 0 5": "K is 43; it is 15 to 42 (refusal 26)",
+        "15 a 000 5": "the spacing is 0; it is 1 to 65535 (refusal 26)",
+        "24 a 5000 5": "no mask of 16 points keeps the spacing 5000; the largest spacing that one "
+                       "keeps is 2048 (refusal 27)",
+        "42 mu 5 5": "no mask of 128 points keeps any spacing in mu-law, where Ucode 0 has the "
+                     "value 0 (refusal 27)",
+        "24 a 600 0700000000": "the least sum of squares at spacing 600 is 711811392, above the "
+                               "ceiling 0700000000; the largest spacing within it is 592 "
+                               "(refusal 28)",
+        "24 a 600 5": "the least sum of squares at spacing 600 is 711811392, above the ceiling 5; "
+                      "no spacing is within it (refusal 28)",
+        "15 mu 100 5 7": "after CEILING there may be the word svg or cp, not 7",
+        "15 mu 100": "wrong number of words; v91 help says what each command takes",
+    }
+    for words, sentence in last.items():
+        same(said({}, f"plan {words}"), [f"v91: {sentence}", "v91: failed"], words)
+    files = {}
+    same(said(files, "plan 15 mu 100 962704 Cp > made"),
+         ["v91: M 6, sum of squares 962704", "v91: ok"], "a CP")
+    mask = 0x11102040080
+    same(cp.read_cp(files["made"], 294), (None, make(0, 1, 0, [0] * 6, [mask])), "the CP made")
+    same(len(files["made"]), 37, "bytes of the CP made")
+    for k, law in product(plan.RATES, (MU, A)):
+        refusal, _, _, mask = plan.plan(k, law, 1, MOST)
+        if not refusal:
+            wanted = (None, make(0, k - 14, 0, [0] * 6, [mask]))
+            same(cp.read_cp(program.cp_for(k, mask), 294), wanted, f"the CP of K = {k}")
+    return f"{len(last)} sentences, CPs of each K"
+
+
 def stored_data():
     """The stored data files of v91: {name: bytes}."""
     return {name: vectors.stored(f"{vectors.DATA}/{name}")
@@ -1258,9 +1769,9 @@ def stored_run():
           .isprintable(), "the transcript is no text")
     found = verdicts(script, lines)
     told = {int(number) for number in re.findall(r"\(refusal (\d+)\)", "\n".join(lines))}
-    same(told, {*range(2, 12), 13, 25}, "refusals told")
+    same(told, {*range(2, 12), 13, 25, 26, 27, 28}, "refusals told")
     outcomes = {(program.words_of(command)[0].lower(), good) for command, good in found}
-    for command in ("cp", "send", "receive", "linear", "dil", "demo"):
+    for command in ("cp", "send", "receive", "linear", "dil", "plan", "demo"):
         check({(command, True), (command, False)} <= outcomes, f"{command} good and failing")
     check({("--version", True), ("run", False), ("nonsense", False)} <= outcomes, "other words")
     same(set(map(len, trial.good_cps().values())), set(describe.CP_LENGTHS), "lengths of CPs read")
@@ -1272,10 +1783,14 @@ def stored_run():
 
 CALL = frames.MOST_FRAMES
 RIGHT_PROGRAM = {name: getattr(program, name)
-                 for name in ("COMMANDS", "bytes_wanted", "cp_in", "data_and_marks",
-                              "doubtful_bits", "octets_for", "run_sentence", "runs_of", "send",
-                              "write_dil")}
+                 for name in ("COMMANDS", "bytes_wanted", "check_ceiling", "cp_in",
+                              "data_and_marks", "doubtful_bits", "number_for", "octets_for",
+                              "plan_sentence", "run_sentence", "runs_of", "send", "write_dil",
+                              "write_plan")}
 RIGHT_RUNS = describe.ucode_runs
+RIGHT_PICTURE = {name: getattr(picture, name)
+                 for name in ("Picture", "bar", "drawn_at", "drawing", "gaps_of", "grid_lines",
+                              "row_line", "row_lines", "text_lines")}
 
 
 def sender_fresh_each_call(record, law, count, data):
@@ -1375,6 +1890,140 @@ def dil_with_progress(call, law_name, *options):
     RIGHT_PROGRAM["write_dil"](call, law_name)
 
 
+# The words of plan, each looked at as the program does.
+PLAN_WORDS = (lambda word: program.number_for("K", plan.RATES, word),
+              lambda word: program.law_named(word),
+              lambda word: program.number_for("SPACING", plan.SPACINGS, word),
+              lambda word: program.check_ceiling(word),
+              lambda word: program.form_named([word]))
+
+
+def plan_looking(*places):
+    """The changes that let plan look at the words in these places first."""
+    def command(call, *words):
+        for place in places:
+            if place < len(words):
+                PLAN_WORDS[place](words[place])
+        RIGHT_PROGRAM["write_plan"](call, *words)
+    return {"program.COMMANDS": commands_with(plan=command)}
+
+
+def plan_judged_after(count):
+    """The changes that let plan judge K and the spacing after so many words."""
+    def command(call, *words):
+        for look, word in zip(PLAN_WORDS[:count], words):
+            look(word)
+        k, spacing = int(words[0]), int(words[2]) if count > 2 else 1
+        if k not in plan.RATES or spacing not in plan.SPACINGS:
+            raise program.Failed(f"{program.outside_sentence(k, spacing)} (refusal 26)")
+        RIGHT_PROGRAM["write_plan"](call, *words)
+    return {"program.COMMANDS": commands_with(plan=command)}
+
+
+def plan_and_more(call, *words):
+    """The sum is said after a text too."""
+    RIGHT_PROGRAM["write_plan"](call, *words)
+    if len(words) == 4:
+        call.say("M 6, sum of squares 962704")
+
+
+class AsTyped(int):
+    """A number that is shown as it was typed."""
+
+    def __new__(cls, *name_numbers_word):
+        number = super().__new__(cls, RIGHT_PROGRAM["number_for"](*name_numbers_word))
+        number.word = name_numbers_word[-1]
+        return number
+
+    def __format__(self, form):
+        return self.word
+
+
+def numbers_like(form):
+    """The changes that let plan take other words for K and SPACING."""
+    def number_for(name, numbers, word):
+        if not re.fullmatch(form, word):
+            shown = program.shown(word)
+            raise program.Failed(f"{name} is a number from {program.bounds(numbers)}, not {shown}")
+        return int(word)
+    return {"program.number_for": number_for}
+
+
+def plan_taking(least, most):
+    """The changes that let plan take so many words; a CEILING not given is the largest."""
+    def command(call, k, law, spacing, ceiling=str(MOST), *words):
+        RIGHT_PROGRAM["write_plan"](call, k, law, spacing, ceiling, *words)
+    return {"program.COMMANDS": program.COMMANDS | {"plan": (command, least, most)}}
+
+
+def least_of_27(number, k, law, spacing, ceiling):
+    """27 tells the largest spacing within the ceiling."""
+    if number != 27:
+        return RIGHT_PROGRAM["plan_sentence"](number, k, law, spacing, ceiling)
+    largest = plan.largest_spacing(k, law, int(ceiling))
+    return (f"no mask of {plan.points_wanted(k)} points keeps the spacing {spacing}; the largest "
+            f"spacing that one keeps is {largest} (refusal 27)")
+
+
+def spacing_before_k(k, spacing):
+    """26 tells the spacing where both are outside."""
+    if spacing not in plan.SPACINGS:
+        return f"the spacing is {spacing}; it is 1 to 65535"
+    return f"K is {k}; it is 15 to 42"
+
+
+def cp_with(granted=0, less=14, acknowledge=0, indices=(0,) * 6):
+    """The changes that give plan's CP other fields; its mask stands in each mask named."""
+    def made(k, mask):
+        drn = k - less
+        rec = make(granted and drn == 28, drn, acknowledge, indices, [mask] * (max(indices) + 1))
+        return cases_cp.plain(rec)
+    return {"program.cp_for": made}
+
+
+def in_picture(**parts):
+    """The changes that give pictures other parts."""
+    return {f"picture.{name}": part for name, part in parts.items()}
+
+
+def in_texts(change):
+    """The changes that make other lines of a text from the right ones."""
+    return {"program.text_lines": lambda drawn: change(RIGHT_PICTURE["text_lines"](drawn))}
+
+
+def plus_for_first(column, before, end):
+    """The first point has a + in column 0."""
+    return RIGHT_PICTURE["drawn_at"](column, before or 0, end)
+
+
+def plus_over_point(column, before, end):
+    """The + of the point before hides the point."""
+    return "+" if column == before else RIGHT_PICTURE["drawn_at"](column, before, end)
+
+
+def no_plus(column, before, end):
+    """The point before is not shown."""
+    there = column == before and column != end
+    return "-" if there else RIGHT_PICTURE["drawn_at"](column, before, end)
+
+
+def axis_over_plus(column, before, end):
+    """Column 0 has a | where the point before stands there."""
+    there = column == 0 and column != end
+    return "|" if there else RIGHT_PICTURE["drawn_at"](column, before, end)
+
+
+def first_band_whole(y, point, x, before, width):
+    """The spacing of the first point is not halved."""
+    width = 2 * width if y == 2450 else width
+    return RIGHT_PICTURE["row_line"](y, point, x, before, width)
+
+
+def bands_end_at_points(y, point, x, before, width):
+    """The spacing reaches from the point downwards."""
+    return RIGHT_PICTURE["row_line"](y, point, x, max(x - width, 0), width)
+
+
 WRONG_PROGRAMS = {
     "sender fresh in each call": {"program.octets_for": sender_fresh_each_call},
     "receiver fresh in each call": {"program.data_and_marks": receiver_fresh_each_call},
@@ -1408,7 +2057,106 @@ WRONG_PROGRAMS = {
     "DIL in A-law alone": {"program.send_dil": lambda law, octets: dil.send_dil(A, octets)},
     "progress taken by dil": {"program.COMMANDS":
                               program.COMMANDS | {"dil": (dil_with_progress, 1, 2)}},
-    "version 1": {"program.VERSION": "v91 1"},
+    "version 2": {"program.VERSION": "v91 2"},
+    "plan: LAW before K": plan_looking(1),
+    "plan: SPACING before LAW": plan_looking(0, 2),
+    "plan: CEILING before SPACING": plan_looking(0, 1, 3),
+    "plan: the last word before CEILING": plan_looking(0, 1, 2, 4),
+    "plan: K judged at once": plan_judged_after(1),
+    "plan: K and SPACING judged before CEILING": plan_judged_after(3),
+    "plan: K and SPACING judged before the last word": plan_judged_after(4),
+    "plan: CEILING not wanted": plan_taking(3, 5),
+    "plan: no word after CEILING": plan_taking(4, 4),
+    "plan: two words after CEILING": plan_taking(4, 6),
+    "plan: numbers of 19 digits": numbers_like("[0-9]{1,19}"),
+    "plan: numbers with signs": numbers_like("-?[0-9]{1,18}"),
+    "plan: numbers of 5 digits": numbers_like("[0-9]{1,5}"),
+    "plan: CEILING with a sign": {"program.check_ceiling": lambda word:
+                                  RIGHT_PROGRAM["check_ceiling"](word.removeprefix("-"))},
+    "plan: CEILING of 20 digits": {"program.check_ceiling": lambda word:
+                                   RIGHT_PROGRAM["check_ceiling"](word if len(word) <= 20 else "")},
+    "plan: CEILING of 64 bits": {"program.plan": lambda k, law, spacing, ceiling:
+                                 plan.plan(k, law, spacing, ceiling % 2**64)},
+    "plan: CEILING not looked at": {"program.plan": lambda k, law, spacing, ceiling:
+                                    plan.plan(k, law, spacing, MOST)},
+    "plan: svg in small letters alone": {"program.form_named": lambda words:
+                                         words[0] if words and words[0].islower() else None},
+    "plan: K and SPACING as typed": {"program.number_for": AsTyped},
+    "plan: CEILING as a number": {"program.Picture": lambda k, law, spacing, ceiling, *rest:
+                                  RIGHT_PICTURE["Picture"](k, law, spacing, int(ceiling), *rest)},
+    "plan: CEILING as a number when refused":
+        {"program.plan_sentence": lambda number, k, law, spacing, ceiling:
+         RIGHT_PROGRAM["plan_sentence"](number, k, law, spacing, int(ceiling))},
+    "plan: 26 tells the spacing first": {"program.outside_sentence": spacing_before_k},
+    "plan: 27 tells a spacing within the ceiling": {"program.plan_sentence": least_of_27},
+    "plan: 28 tells a spacing beyond the ceiling":
+        {"program.largest_spacing": lambda k, law, ceiling: plan.largest_spacing(k, law, MOST)},
+    "plan: the largest spacing 0 told": {"program.largest_spacing": lambda *args:
+                                         plan.largest_spacing(*args) or "0"},
+    "plan: the largest spacing of mu-law": {"program.largest_spacing": lambda k, law, ceiling:
+                                            plan.largest_spacing(k, MU, ceiling)},
+    "plan: M told for 27 is 128": {"program.points_wanted": lambda k: 128},
+    "plan: refused without a word": {"program.plan_sentence": lambda number, *rest:
+                                     f"no plan (refusal {number})"},
+    "plan: the sum said of a text": {"program.COMMANDS": commands_with(plan=plan_and_more)},
+    "plan: the sum not said": {"program.found_line": lambda drawn: "a plan"},
+    "plan: CP with drn K - 13": cp_with(less=13),
+    "plan: CP with six masks": cp_with(indices=range(6)),
+    "plan: CP with index 1": cp_with(indices=(1,) * 6),
+    "plan: CP granted at drn 28": cp_with(granted=1),
+    "plan: CP acknowledged": cp_with(acknowledge=1),
+    "plan: a-law in small letters": {"picture.LAW_NAMES": ("mu-law", "a-law")},
+    "plan: the other law named": {"picture.LAW_NAMES": picture.LAW_NAMES[::-1]},
+    "plan: mask in capitals": in_picture(mask_line=lambda drawn:
+                                         f"mask {drawn.mask:032X}, Ucode 127 in the top bit"),
+    "plan: mask without its zeros": in_picture(mask_line=lambda drawn:
+                                               f"mask {drawn.mask:x}, Ucode 127 in the top bit"),
+    "plan: mask from Ucode 0": in_picture(
+        mask_line=lambda drawn: f"mask {mirrored(drawn.mask):032x}, Ucode 127 in the top bit"),
+    "plan: the first gap not doubled": in_picture(gaps_of=lambda values: [
+        values[0], *RIGHT_PICTURE["gaps_of"](values)[1:]]),
+    "plan: gaps above the points": in_picture(gaps_of=lambda values: [
+        *RIGHT_PICTURE["gaps_of"](values)[1:], 0]),
+    "plan: points falling": in_picture(ucodes_in=lambda drawn: [
+        u for u in range(127, -1, -1) if drawn.mask >> u & 1]),
+    "plan: 55 columns": in_picture(COLUMNS=55),
+    "plan: columns rounded down": in_picture(column_of=lambda value, top: 56 * value // top),
+    "plan: columns rounded up": in_picture(column_of=lambda value, top: -(-56 * value // top)),
+    "plan: the middle rounded down": in_picture(column_of=lambda value, top:
+                                                (112 * value + top - 1) // (2 * top)),
+    "plan: a bar a column short": in_picture(bar=lambda end:
+                                             RIGHT_PICTURE["bar"](max(end - 1, 0))),
+    "plan: two marks in a bar of one column": in_picture(bar=lambda end:
+                                                         f"|{'-' * (end - 1)}|"),
+    "plan: + for the first point": in_picture(drawn_at=plus_for_first),
+    "plan: + over the point": in_picture(drawn_at=plus_over_point),
+    "plan: no + for the point before": in_picture(drawn_at=no_plus),
+    "plan: | over + in column 0": in_picture(drawn_at=axis_over_plus),
+    "plan: no axis": in_picture(drawn_at=lambda column, *rest:
+                                RIGHT_PICTURE["drawn_at"](column, *rest).replace("|", " ")),
+    "plan: drawings filled with spaces": in_picture(drawing=lambda *args:
+                                                    RIGHT_PICTURE["drawing"](*args).ljust(57)),
+    "plan: no last line": in_texts(lambda lines: lines[:-1]),
+    "plan: the last line of the highest Ucode": in_texts(lambda lines: [
+        *lines[:-1], f"the gap of Ucode {lines[-2][:5].strip()} is the one between its two signs"]),
+    "plan: lengths rounded": in_picture(length_of=lambda value, top:
+                                        (7800 * value + top) // (2 * top)),
+    "plan: lengths to 4000": in_picture(HALF_WIDTH=4000),
+    "plan: a grid of 5 lines at most": in_picture(MOST_LINES=5),
+    "plan: a grid of 7 lines at most": in_picture(MOST_LINES=7),
+    "plan: a grid without steps of 20": in_picture(STEPS=picture.STEPS[1:]),
+    "plan: no line of the grid at the top": in_picture(grid_lines=lambda drawn: [
+        line for line in RIGHT_PICTURE["grid_lines"](drawn) if "M3900 0V" not in line]),
+    "plan: the spacing not halved for the first point": in_picture(row_line=first_band_whole),
+    "plan: the spacing below the points": in_picture(row_line=bands_end_at_points),
+    "plan: -0 written as 0": in_picture(row_line=lambda *args:
+                                        RIGHT_PICTURE["row_line"](*args).replace("-0 ", "0 ")),
+    "plan: rows from the top down": in_picture(row_lines=lambda drawn:
+                                               RIGHT_PICTURE["row_lines"](drawn)[::-1]),
+    "plan: SVG in one line": {"program.svg_lines": lambda drawn:
+                              ["".join(picture.svg_lines(drawn))]},
+    "plan: SVG without its end": {"program.svg_lines": lambda drawn:
+                                  picture.svg_lines(drawn)[:-1]},
 }
 
 
@@ -1418,16 +2166,10 @@ def first_differing(changes, wanted):
     The program is given by what it changes.
     """
     data = stored_data()
-    changed = [patch(name, value) for name, value in changes.items()]
-    for each in changed:
-        each.start()
-    try:
+    with changed(changes):
         found = program.transcript(data, data[trial.NAME].decode("ascii")).splitlines()
-        differ = [a != b for a, b in zip_longest(found, wanted)]
-        return differ.index(True) + 1 if any(differ) else 0
-    finally:
-        for each in changed:
-            each.stop()
+    differ = [a != b for a, b in zip_longest(found, wanted)]
+    return differ.index(True) + 1 if any(differ) else 0
 
 
 def wrong_programs():
@@ -1444,7 +2186,9 @@ def wrong_programs():
 
 GROUPS = (table_1, examples, values, steps, cp_round_trips, demand_3, stored_answers,
           stored_refusals, stored_coverage, empty_intervals, other_dils, default_dil, wrong_codecs,
-          program_round_trips, program_sentences, stored_run, wrong_programs)
+          plan_sizes, plan_least, plan_answers, plan_ranges, plan_largest, stored_plans,
+          wrong_planners, program_round_trips, program_sentences, plan_sentences, pictures,
+          stored_run, wrong_programs)
 
 
 def main():

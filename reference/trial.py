@@ -364,6 +364,85 @@ receive example.cp mu < octets > back
 DIL ALAW > octets
 linear a < octets
 
+# Masks for a wanted rate: few points and all of them, the least sum as the ceiling, and ceilings
+# of many digits
+plan 15 mu 100 2000000
+plan 16 ulaw 1 000008960
+plan 20 a 1000 18446744073709551615
+PLAN 24 ALAW 600 711811392
+plan 15 mu 5496 2371632736
+plan 000000000000000041 mu 000000000000000016 18446744073709551616
+plan 42 A 16 1234567890123456789012345678901234567890
+plan 35 a 256 99999999999 > text
+send full.cp mu exact < text > octets
+
+# A spacing and a value that lie in the middle between two columns
+plan 15 mu 3 5824
+plan 17 a 560 99999999999
+
+# Masks as SVG: in the second the largest value is 6 steps of 20, in the third it is 7 and a part
+plan 15 mu 100 2000000 svg
+plan 0017 MU 00016 43520 SVG
+plan 19 mu 16 99999999999 svg
+plan 20 a 1000 18446744073709551615 svg
+plan 42 a 1 13359790080 svg
+
+# Masks as CP
+plan 15 mu 100 2000000 cp > planned.cp
+cp planned.cp
+linear a < planned.cp
+plan 20 a 1000 18446744073709551615 CP > planned.cp
+cp planned.cp
+send planned.cp a < hello > octets
+receive planned.cp a 20 < octets
+plan 42 alaw 16 18446744073709551615 cp > planned.cp
+cp planned.cp
+
+# Masks that are refused: K or the spacing outside, no mask, the sum above the ceiling
+plan 14 mu 100 18446744073709551615
+plan 43 a 0 18446744073709551615 cp
+plan 0 mu 65536 5 svg
+plan 000000000000000043 mu 100 5
+plan 999999999999999999 a 999999999999999999 5
+plan 15 mu 0 18446744073709551615
+plan 42 a 000000000000065536 5
+plan 42 mu 999999999999999999 5 svg
+plan 15 mu 5497 18446744073709551615
+plan 42 a 17 5
+plan 24 ulaw 5000 18446744073709551615 svg
+plan 15 a 65535 0
+plan 42 mu 1 18446744073709551615 cp
+plan 42 ulaw 65535 5
+plan 15 mu 100 962703
+plan 24 a 000000000000000600 700000000 cp
+plan 24 a 600 0000711811391
+plan 41 mu 16 5 svg
+plan 42 a 1 13359790079
+plan 42 a 16 0
+
+# Wrong words of plan: the first of them is told, and before any refusal
+plan
+plan 15 mu 100
+plan 15 mu 100 2000000 svg cp
+plan x xlaw y z png
+plan -15 mu 100 2000000
+plan \t a 100 2000000
+plan 15.0 a 100 2000000
+plan 0000000000000000015 a 100 2000000
+plan 14 x\tlaw y z png
+plan 15 15 100 2000000
+plan 14 mu y z png
+plan 15 a -100 2000000
+plan 15 a 0000000000000000100 2000000
+plan 15 a 1\t0 2000000
+plan 14 mu 0 z png
+plan 15 a 100 -1
+plan 15 a 100 2000000.
+plan 15 a 100 5\x7f
+plan 14 mu 0 5 png
+plan 15 a 100 2000000 s\tg
+plan 15 a 100 2000000 svgs
+
 # The demo, its CP, and outputs in files that are written anew
 demo
 demo cp > made.cp

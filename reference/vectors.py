@@ -10,6 +10,7 @@ from pathlib import Path
 import cases_cp
 import cases_frames
 import dil
+import plan
 import trial
 from forms import answer
 from program import transcript
@@ -18,6 +19,9 @@ from table1 import octet_by_rule, octet_of, value_by_rule, value_of
 CRATES = Path(__file__).resolve().parent.parent / "crates"
 DATA = "v91/data"
 DIL_LENGTHS = (0, 1499, 1500, 1501)
+PLAN_RATES = range(14, 44)
+PLAN_SPACINGS = (0, 1, 16, 100, 600)
+PLAN_SPACINGS_ABOVE = (65535, 65536)
 
 
 def hex_lines(byte_strings):
@@ -62,9 +66,41 @@ def dil_lines():
     return "".join(lines)
 
 
+def largest_line(k, law, name):
+    """The largest spacing that a mask keeps, whatever its sum."""
+    return f"{k} {name} largest {plan.largest_spacing(k, law, plan.MOST_CEILING)}\n"
+
+
+def plan_line(k, law, name, spacing, ceiling):
+    """A call of plan: what is handed in, then refusal, M, sum and mask."""
+    refusal, points, total, mask = plan.plan(k, law, spacing, ceiling)
+    number = refusal.number if refusal else 0
+    return f"{k} {name} {spacing} {ceiling} {number} {points} {total} {mask:032x}\n"
+
+
+def plan_calls(k, law, name, spacing):
+    """A call with the largest ceiling; where it gives a mask, also with its sum, and 1 less."""
+    refusal, _, total, _ = plan.plan(k, law, spacing, plan.MOST_CEILING)
+    ceilings = (plan.MOST_CEILING,) if refusal else (plan.MOST_CEILING, total, total - 1)
+    return [plan_line(k, law, name, spacing, ceiling) for ceiling in ceilings]
+
+
+def plan_lines():
+    """Masks for a wanted rate: for each law and K the largest spacing, then calls of plan."""
+    lines = []
+    for law, name in enumerate(("mu", "a")):
+        for k in PLAN_RATES:
+            largest = plan.largest_spacing(k, law, plan.MOST_CEILING)
+            lines.append(largest_line(k, law, name))
+            for spacing in (*PLAN_SPACINGS, largest, largest + 1, *PLAN_SPACINGS_ABOVE):
+                lines += plan_calls(k, law, name, spacing)
+    return "".join(lines)
+
+
 def texts():
     """The stored files of the programs vectors_*: {path under crates: text}."""
-    made = {"vectors_pcm/stdout": pcm_lines(), "vectors_dil/stdout": dil_lines()}
+    made = {"vectors_pcm/stdout": pcm_lines(), "vectors_dil/stdout": dil_lines(),
+            "vectors_plan/stdout": plan_lines()}
     for name, cases in (("vectors_cp", cases_cp.cases()), ("vectors_frames", cases_frames.cases())):
         made[f"{name}/stdin"] = hex_lines(cases)
         made[f"{name}/stdout"] = hex_lines(map(answer, cases))

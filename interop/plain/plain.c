@@ -3,7 +3,7 @@
 
 #include <string.h>
 
-enum { RECORD_BYTES = 105, STATE_BYTES = 5, HISTORY_BITS = 23, MOST_FRAMES = 1024 };
+enum { RECORD_BYTES = 105, STATE_BYTES = 5, PLAN_BYTES = 24, HISTORY_BITS = 23, MOST_FRAMES = 1024 };
 
 /* Numbers in bytes, low byte first */
 
@@ -388,20 +388,25 @@ uint32_t plain_receive(const uint8_t *record, size_t record_len, bool a_law, siz
     return 0;
 }
 
+static int linear_value(bool a_law, int ucode)
+{
+    int segment = ucode >> 4, step = ucode & 15, value;
+    if (!a_law)
+        value = ((8 * step + 132) << segment) - 132;
+    else if (segment == 0)
+        value = 16 * step + 8;
+    else
+        value = (16 * step + 264) << (segment - 1);
+    return value;
+}
+
 uint32_t plain_linear(bool a_law, const uint8_t *octets, size_t octets_len,
                       int32_t *samples, size_t samples_len)
 {
     if (samples_len < octets_len)
         return 17;
     for (size_t n = 0; n < octets_len; n++) {
-        int ucode = (octets[n] ^ (a_law ? 0xD5 : 0xFF)) & 127;
-        int segment = ucode >> 4, step = ucode & 15, value;
-        if (!a_law)
-            value = ((8 * step + 132) << segment) - 132;
-        else if (segment == 0)
-            value = 16 * step + 8;
-        else
-            value = (16 * step + 264) << (segment - 1);
+        int value = linear_value(a_law, (octets[n] ^ (a_law ? 0xD5 : 0xFF)) & 127);
         samples[n] = octets[n] & 128 ? value : -value;
     }
     return 0;
@@ -449,4 +454,44 @@ uint32_t plain_send_dil(bool a_law, uint8_t *octets, size_t octets_len)
         }
     }
     return count;
+}
+
+/* A mask for a wanted rate: the lowest Ucode that keeps the spacing, again and again. No point of any other mask
+   is lower than the one in its place, so no sum is less. */
+
+static unsigned points_wanted(uint32_t k)
+{
+    uint64_t points = 1;
+    while (points * points * points * points * points * points >> k == 0)
+        points++;
+    return (unsigned)points;
+}
+
+uint32_t plain_plan(uint32_t k, bool a_law, uint32_t spacing, uint64_t ceiling, uint8_t *plan, size_t plan_len)
+{
+    uint64_t half[2] = { 0, 0 }, sum = 0;
+
+    if (k < 15 || k > 42 || spacing < 1 || spacing > 65535)
+        return 26;
+    unsigned left = points_wanted(k);
+    uint32_t least = (spacing + 1) / 2; /* the least value that the next point may have */
+    for (int u = 0; u < 128 && left > 0; u++) {
+        uint32_t value = (uint32_t)linear_value(a_law, u);
+        if (value >= least) {
+            half[u / 64] |= (uint64_t)1 << u % 64;
+            sum += (uint64_t)value * value;
+            least = value + spacing;
+            left--;
+        }
+    }
+    if (left > 0)
+        return 27;
+    if (sum > ceiling)
+        return 28;
+    if (plan_len < PLAN_BYTES)
+        return 17;
+    put_number(plan, 8, half[0]);
+    put_number(plan + 8, 8, half[1]);
+    put_number(plan + 16, 8, sum);
+    return 0;
 }

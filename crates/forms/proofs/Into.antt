@@ -1,7 +1,7 @@
--- A record put into bytes: the head byte by byte, the masks word by word. Assumes nothing.
+-- A record put into bytes: the head byte by byte, the masks word by word; and a plan, word by word. Assumes nothing.
 use mathlib.Core.Path.{_≡_, refl, sym, ap, ap₂, _∙_}
 use Prim.Native.Nat.{ℕ, zero, suc, _+_, _-_, _*_, _/_, _%_, _^_, _≤_, _<_}
-use mathlib.Core.List.{List, _++_}
+use mathlib.Core.List.{List, [], _∷_, _++_}
 use native.Mathlib.Omega.{arith}
 use native.Mathlib.Decide.{decLt}
 use native.Mathlib.Numerals.{add-one}
@@ -14,14 +14,16 @@ use mir.Val.{boolByte}
 use Rattle.standard.specs.Lists.{listFrom}
 use Rattle.standard.specs.Bits.{bitAt, field, bytesOf}
 use Rattle.standard.specs.Record.{indexOf, halfOf}
+use Rattle.standard.specs.Calls.{over}
 use Rattle.standard.specs.declared.Record.{Record}
 use Rattle.standard.proofs.Lists.{length-listFrom, getD-list}
 use Rattle.standard.proofs.Bits.{field-lt}
-use Rattle.standard.proofs.Filling.{listed-none, listed-more}
+use Rattle.standard.proofs.Filling.{listed-none, listed-more, listed-all}
 use Rattle.standard.proofs.Words.{byte-weight}
 use Rattle.bits.specs.PutField.{bitWith, putField}
 use Rattle.bits.proofs.PutField.{length-putField, putField-none, putField-step, putField-byte}
-use Rattle.forms.specs.RecordBytes.{recordByte}
+use Rattle.forms.specs.RecordBytes.{halfByte, recordByte}
+use Rattle.forms.specs.PlanBytes.{planLength, planBytes}
 
 -- ---- bytes of a number in a buffer
 
@@ -107,3 +109,28 @@ module _ (f : ℕ → ℕ) (d s : List ℕ) (e : s ≡ listFrom f 0 9 ++ drop 9 
 
   pub rest-past : drop 105 s ≡ drop 105 d
   rest-past = sym (drop-drop 96 9 s) ∙ ap (drop 96) rest ∙ drop-drop 96 9 d
+
+-- ---- words from the first byte on
+
+-- word k of ws, behind those before it
+word-put : (ws d s : List ℕ) (k : ℕ) → 8 * k + 8 ≤ length d → length s ≡ length d → Bytes s → s ≡ listFrom (halfByte ws) 0 (8 * k) ++ drop (8 * k) d
+    → putField s (8 * (8 * k)) 64 (getD ws k 0) ≡ listFrom (halfByte ws) 0 (8 * k + 8) ++ drop (8 * k + 8) d
+word-put ws d s k h l b e =
+    number-put (halfByte ws) d (8 * k) (getD ws k 0) 8 s b h l (λ q a. byte q a) e
+  where
+    byte : (q : ℕ) → q < 8 → getD ws k 0 / 2 ^ (8 * q) % 256 ≡ halfByte ws (8 * k + q)
+    byte q a =
+        let x : (8 * k + q) / 8 ≡ k = omega arith in
+        let y : (8 * k + q) % 8 ≡ q = omega arith in
+        sym (ap₂ (λ (i j : ℕ). getD ws i 0 / 2 ^ (8 * j) % 256) x y)
+
+pub plan-put : (halves : List ℕ) (sum : ℕ) (d a b c : List ℕ) → planLength ≤ length d → Bytes d → a ≡ putField d (8 * 0) 64 (getD halves 0 0)
+    → b ≡ putField a (8 * 8) 64 (getD halves 1 0) → c ≡ putField b (8 * 16) 64 sum → c ≡ over (planBytes halves sum) d
+unfolding planBytes
+plan-put halves sum d a b c h k ea eb ec =
+    let ws = getD halves 0 0 ∷ getD halves 1 0 ∷ sum ∷ [] in
+    let la : length a ≡ length d = ap length ea ∙ length-putField d (8 * 0) 64 (getD halves 0 0) in
+    let lb : length b ≡ length d = ap length eb ∙ length-putField a (8 * 8) 64 (getD halves 1 0) ∙ la in
+    let fa = ea ∙ word-put ws d d 0 (omega arith) refl k (listed-none (halfByte ws) d) in
+    let fb = eb ∙ word-put ws d a 1 (omega arith) la (rw ea (bytes-put d (8 * 0) 64 (getD halves 0 0))) fa in
+    listed-all (halfByte ws) d c 24 (ec ∙ word-put ws d b 2 (omega arith) lb (rw eb (bytes-put a (8 * 8) 64 (getD halves 1 0))) fb)

@@ -1,6 +1,7 @@
-// What crosses an interface: an outcome in one number, a record and a line state in bytes.
+// What crosses an interface: an outcome in one number, a record, a line state and a plan in bytes.
 use standard::LineState;
 use standard::Outcome;
+use standard::Planned;
 use standard::Record;
 use standard::Refusal;
 ghost use mathlib.Core.Path.{_≡_};
@@ -13,12 +14,16 @@ ghost use Rattle.standard.specs.Refusals.{refusalAnswer, outcomeAnswer};
 ghost use Rattle.forms.specs.Coded.{coded};
 ghost use Rattle.forms.specs.RecordBytes.{recordLength, recordByte, recordBytes, indexAt, halfAt, recordAt};
 ghost use Rattle.forms.specs.StateBytes.{stateLength, stateByte, stateBytes, stateAt};
+ghost use Rattle.forms.specs.PlanBytes.{planLength, planBytes};
 
 // The bytes of a record.
 pub const RECORD_BYTES: usize = 105;
 
 // The bytes of a line state.
 pub const STATE_BYTES: usize = 5;
+
+// The bytes of a plan.
+pub const PLAN_BYTES: usize = 24;
 
 // A refusal in one number.
 fn code_of_refusal(x: Refusal) -> u32
@@ -43,6 +48,9 @@ fn code_of_refusal(x: Refusal) -> u32
         Refusal::InputTooShort => 16,
         Refusal::OutputTooShort => 17,
         Refusal::IntervalEmpty(i) => 25 + 0x100_0000 * (i as u32),
+        Refusal::RateOrSpacingOutside => 26,
+        Refusal::NoMask => 27,
+        Refusal::SumExceedsCeiling => 28,
     }
 }
 
@@ -157,4 +165,15 @@ pub fn state_into(s: LineState, bytes: &mut [u8])
         bytes[k] = state_byte(s, k);
         k += 1;
     }
+}
+
+// Puts the mask and its sum into the first 24 bytes; the others stay.
+pub fn plan_into(p: Planned, bytes: &mut [u8])
+    requires { ⌜ planLength ≤ length (now bytes) ⌝ }
+    ensures { λ x. ⌜ now (bytes .exit) ≡ over (planBytes (p .mask) (p .sum)) (now (bytes .entry)) ⌝ }
+{
+    let mask = p.mask;
+    bits::put_word(bytes, 0, mask[0]);
+    bits::put_word(bytes, 8, mask[1]);
+    bits::put_word(bytes, 16, p.sum);
 }

@@ -40,7 +40,7 @@ pub fn ucode_of(law: Law, octet: u8) -> u8
 }
 
 // The linear value of a Ucode with the positive sign, by its Uchord s and its place q in it.
-fn magnitude_of(law: Law, ucode: u8) -> u32
+pub fn magnitude_of(law: Law, ucode: u8) -> u32
     requires { ⌜ ucode < 128 ⌝ }
     ensures { λ r. ⌜ (r ≡ magnitude law ucode) × (r < 2 ^ 15) ⌝ }
 {

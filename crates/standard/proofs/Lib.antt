@@ -11,6 +11,7 @@ pub mod Modulus
 pub mod Signs
 pub mod Octets
 pub mod Dil
+pub mod Plan
 pub mod Frame
 pub mod Stages
 pub mod Refusals

@@ -2,7 +2,7 @@
 use mathlib.Core.Path.{_≡_, refl, sym, ap, ap₂, _∙_}
 use mathlib.Core.Logic.{_⊎_, inl, inr}
 use Prim.Native.Nat.{ℕ, zero, suc, _+_, _*_, _-_, _≤_, _<_, max}
-use mathlib.Core.Bool.{Bool, true, false, _&&_, _||_, Bool·beq}
+use mathlib.Core.Bool.{Bool, true, false, cond, _&&_, _||_, Bool·beq, true≢false}
 use mathlib.Core.List.{List, [], _∷_, _++_, map, append-assoc, append-nil}
 use native.Mathlib.Nat.{add-zero, zero-add, add-suc, suc-add, zero-mul, not-suc-le-zero, suc-ne-zero, le-of-suc-le-suc, eq-or-lt-of-le}
 use native.Mathlib.Numerals.{add-one}
@@ -10,7 +10,7 @@ use native.Mathlib.Omega.{arith}
 use lib.Dec.{T}
 use lib.ListN.{length, getD, take, drop, length-append, length-drop, take-append-drop, List·getD-append}
 use lib.Seq.{ext-getD, getD-append-add, length-take-le, drop-drop, take-at, drop-at}
-use Rattle.standard.specs.Lists.{listFrom, any, largest, parts, joined, each, after}
+use Rattle.standard.specs.Lists.{listFrom, any, largest, lowestFrom, listWhere, parts, joined, each, after}
 
 -- ---- listFrom
 
@@ -139,6 +139,50 @@ pub largest-ext : (f g : ℕ → ℕ) (n : ℕ) → ((k : ℕ) → k < n → f k
 unfolding largest
 largest-ext f g zero h = refl
 largest-ext f g (suc n) h = ap₂ max (largest-ext f g n (λ k l. h k (omega arith))) (h n (omega arith))
+
+-- ---- the lowest number where f holds, and all of them
+
+module _ (f : ℕ → Bool) where
+  pub lowest-hit : (i n : ℕ) → f i ≡ true → lowestFrom f i n ≡ i
+  unfolding lowestFrom
+  lowest-hit i zero e = refl
+  lowest-hit i (suc n) e = rw e
+
+  pub lowest-past : (i n : ℕ) → 0 < n → f i ≡ false → lowestFrom f i n ≡ lowestFrom f (i + 1) (n - 1)
+  unfolding lowestFrom
+  lowest-past i zero h e = absurd (not-suc-le-zero h)
+  lowest-past i (suc n) h e = let z : suc n - 1 ≡ n = omega arith in rw (e, z, add-one)
+
+  pub lowest-holds : (i n : ℕ) → f (i + n) ≡ true → f (lowestFrom f i n) ≡ true
+  unfolding lowestFrom
+  lowest-holds i zero e = rw add-zero at e
+  lowest-holds i (suc n) e = go (lowest-holds (suc i) n (ap f (suc-add i n ∙ sym (add-suc i n)) ∙ e)) (f i) refl
+    where
+      go : f (lowestFrom f (suc i) n) ≡ true → (b : Bool) → f i ≡ b → f (cond (f i) i (lowestFrom f (suc i) n)) ≡ true
+      go ih true q = rw q q
+      go ih false q = rw q ih
+
+  pub lowest-le : (i n j : ℕ) → i ≤ j → f j ≡ true → lowestFrom f i n ≤ j
+  unfolding lowestFrom
+  lowest-le i zero j h e = h
+  lowest-le i (suc n) j h e = go (lowest-le (suc i) n j) (f i) refl
+    where
+      go : (suc i ≤ j → f j ≡ true → lowestFrom f (suc i) n ≤ j) → (b : Bool) → f i ≡ b → cond (f i) i (lowestFrom f (suc i) n) ≤ j
+      go ih true q = rw q h
+      go ih false q = rw q (ih (above (eq-or-lt-of-le h)) e)
+        where
+          above : (i ≡ j) ⊎ (i < j) → suc i ≤ j
+          above (inl z) = absurd (true≢false (sym e ∙ ap f (sym z) ∙ q))
+          above (inr l) = l
+
+  -- one number more
+  pub where-snoc : (i n : ℕ) → listWhere f i (suc n) ≡ listWhere f i n ++ cond (f (i + n)) ((i + n) ∷ []) []
+  unfolding listWhere
+  where-snoc i zero = rw add-zero (append-nil (cond (f i) (i ∷ []) []))
+  where-snoc i (suc n) =
+      ap (λ (xs : List ℕ). cond (f i) (i ∷ []) [] ++ xs)
+      (where-snoc (suc i) n ∙ ap (λ (k : ℕ). listWhere f (suc i) n ++ cond (f k) (k ∷ []) []) (suc-add i n ∙ sym (add-suc i n)))
+      ∙ sym (append-assoc (cond (f i) (i ∷ []) []) (listWhere f (suc i) n) (cond (f (i + suc n)) ((i + suc n) ∷ []) []))
 
 -- ---- parts and joined
 

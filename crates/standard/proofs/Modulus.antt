@@ -1,12 +1,12 @@
 -- Laws of the modulus encoder. Assumes nothing.
 use mathlib.Core.Path.{_≡_, refl, sym, ap, _∙_, subst}
 use mathlib.Core.Logic.{_⊎_, inl, inr}
-use Prim.Native.Nat.{ℕ, zero, suc, _+_, _*_, _/_, _%_, _≤_, _<_}
+use Prim.Native.Nat.{ℕ, zero, suc, _+_, _*_, _/_, _%_, _^_, _≤_, _<_}
 use mathlib.Core.List.{List, [], _∷_}
 use native.Mathlib.Nat.{mod-lt, mod-add-div, div-lt-iff-lt-mul, mul-comm, not-suc-le-zero, eq-zero-or-pos, zero-mul, mul-zero, le-trans}
-use native.Mathlib.Nat.{le-refl, le-of-eq, add-comm, mul-suc, mul-le-mul-left, add-lt-add-of-lt-of-le}
+use native.Mathlib.Nat.{le-refl, le-of-eq, add-comm, mul-suc, mul-le-mul-left, add-lt-add-of-lt-of-le, pow-zero, pow-suc}
 use native.Mathlib.Omega.{arith}
-use lib.ListN.{length, getD}
+use lib.ListN.{length, getD, replicate}
 use Rattle.standard.specs.Lists.{listFrom}
 use Rattle.standard.specs.Modulus.{product, labels, number}
 
@@ -71,3 +71,9 @@ number-lt (M ∷ Ms) [] w = absurd w
 number-lt (M ∷ Ms) (c ∷ cs) w =
     le-trans (add-lt-add-of-lt-of-le (w .0) (le-refl (M * number Ms cs)))
     (le-trans (le-of-eq (add-comm M (M * number Ms cs) ∙ sym (mul-suc M (number Ms cs)))) (mul-le-mul-left M (number-lt Ms cs (w .1))))
+
+-- of n sizes that are the same it is a power
+pub product-same : (M n : ℕ) → product (replicate n M) ≡ M ^ n
+unfolding product
+product-same M zero = sym (pow-zero M)
+product-same M (suc n) = ap (λ (x : ℕ). M * x) (product-same M n) ∙ mul-comm M (M ^ n) ∙ sym (pow-suc M n)

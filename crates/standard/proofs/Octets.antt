@@ -1,8 +1,10 @@
 -- Laws of octets: both laws of V.90 Table 1, there and back, by one computed test over the table; and of linear values. Assumes nothing.
 use mathlib.Core.Path.{_≡_}
-use Prim.Native.Nat.{ℕ, _^_, _<_}
+use mathlib.Core.Logic.{_⊎_, inl, inr}
+use Prim.Native.Nat.{ℕ, zero, suc, _+_, _^_, _<_}
 use mathlib.Core.Bool.{Bool, true, false, _&&_, Bool·beq}
-use native.Mathlib.Nat.{mod-lt}
+use native.Mathlib.Nat.{mod-lt, not-suc-le-zero, le-of-suc-le-suc, eq-or-lt-of-le, lt-trans}
+use native.Mathlib.Omega.{arith}
 use lib.Dec.{T, eqb, ltb, eqb→eq, ltb→lt, lit<}
 use Rattle.standard.specs.Octets.{positiveOctet, octet, signOf, ucodeOf, magnitudeIn, magnitude}
 use Rattle.standard.specs.declared.Law.{Law}
@@ -63,3 +65,23 @@ all-small A = tt
 
 pub magnitude-lt : (l : Law) (u : ℕ) → u < 128 → magnitude l u < 2 ^ 15
 magnitude-lt l u h = ltb→lt (magnitude l u) (2 ^ 15) (every-at (small l) 128 (all-small l) u h)
+
+-- they rise with the Ucode, by another
+abbrev rises : Law → ℕ → Bool
+rises l u = ltb (magnitude l u) (magnitude l (suc u))
+
+all-rise : (l : Law) → T (every (rises l) 127)
+unfolding magnitude magnitudeIn
+all-rise Mu = tt
+all-rise A = tt
+
+pub magnitude-rises : (l : Law) (u w : ℕ) → u < w → w < 128 → magnitude l u < magnitude l w
+magnitude-rises l u zero h b = absurd (not-suc-le-zero h)
+magnitude-rises l u (suc w) h b = go (λ k. magnitude-rises l u w k (omega arith)) (eq-or-lt-of-le (le-of-suc-le-suc h))
+  where
+    next : magnitude l w < magnitude l (suc w)
+    next = ltb→lt (magnitude l w) (magnitude l (suc w)) (every-at (rises l) 127 (all-rise l) w (omega arith))
+
+    go : (u < w → magnitude l u < magnitude l w) → (u ≡ w) ⊎ (u < w) → magnitude l u < magnitude l (suc w)
+    go ih (inl e) = rw e next
+    go ih (inr k) = lt-trans (ih k) next

@@ -19,8 +19,9 @@ use Rattle.standard.specs.Constellation.{size, sizes}
 use Rattle.standard.specs.Modulus.{product}
 use Rattle.standard.specs.Refusals.{indexTooLarge, drnTooLarge, grantedBelowFullRate, intervalEmpty, productTooSmall}
 use Rattle.standard.specs.Refusals.{maskAboveIndices, framesAtCleardown, historyTooLarge, tooManyFrames, emptyTest, emptyTests}
-use Rattle.standard.specs.Refusals.{rateTests, recordTests, readTests, writeTests, lineTests, bufferTests, frameTests}
+use Rattle.standard.specs.Refusals.{rateTests, recordTests, readTests, writeTests, lineTests, bufferTests, frameTests, planTests}
 use Rattle.standard.specs.Calls.{accepted}
+use Rattle.standard.specs.declared.Law.{Law}
 use Rattle.standard.specs.declared.LineState.{LineState}
 use Rattle.standard.specs.declared.Record.{Record}
 use Rattle.standard.proofs.Lists.{any-none, none-any, largest-lt}
@@ -117,6 +118,10 @@ module _ (r : Record) where
 pub read-numbered : (s : List ℕ) (n : ℕ) → T (numbered (readTests s n))
 unfolding readTests rateTests emptyTests emptyTest listFrom
 read-numbered s n = tt
+
+pub plan-numbered : (k : ℕ) (l : Law) (d ceiling : ℕ) → T (numbered (planTests k l d ceiling))
+unfolding planTests
+plan-numbered k l d ceiling = tt
 
 -- ---- a call that is not refused
 

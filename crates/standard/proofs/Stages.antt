@@ -16,6 +16,7 @@ use Rattle.standard.specs.declared.Refusal.the-variants.{CountExceedsByt
 use Rattle.standard.specs.declared.Refusal.the-variants.{StartBitSet, CrcMismatch, FixedBitWrong, DrnTooLarge, GrantedBelowFullRate}
 use Rattle.standard.specs.declared.Refusal.the-variants.{ProductTooSmall, MaskAboveIndices, FramesAtCleardown, HistoryTooLarge}
 use Rattle.standard.specs.declared.Refusal.the-variants.{TooManyFrames, InputTooShort, OutputTooShort, IntervalEmpty}
+use Rattle.standard.specs.declared.Refusal.the-variants.{RateOrSpacingOutside, NoMask, SumExceedsCeiling}
 use Rattle.standard.proofs.First.{numbered, None, none-first, first-append, first-left}
 
 -- no refusal has the number 0
@@ -38,6 +39,9 @@ refused-positive TooManyFrames = lit< tt
 refused-positive InputTooShort = lit< tt
 refused-positive OutputTooShort = lit< tt
 refused-positive (IntervalEmpty i) = lit< tt
+refused-positive RateOrSpacingOutside = lit< tt
+refused-positive NoMask = lit< tt
+refused-positive SumExceedsCeiling = lit< tt
 
 -- an outcome says whether the call is accepted
 pub refused-not : (o : Outcome) (x : Refusal) (a : Answer) → o ≡ Refused x → outcomeAnswer o ≡ a → accepted a ≡ false

@@ -1,19 +1,21 @@
--- The six entries: a call of each as what is lent, the refusal's number (0 for none) with its value, and what is left: 'A refusal
+-- The seven entries: a call of each as what is lent, the refusal's number (0 for none) with its value, and what is left: 'A refusal
 -- carries its number, and buffers and state are unchanged.' Assumes nothing.
-use Prim.Native.Nat.{ℕ, _*_}
-use mathlib.Core.Bool.{Bool, cond, _||_}
+use Prim.Native.Nat.{ℕ, _*_, _-_}
+use mathlib.Core.Bool.{Bool, false, cond, _&&_, _||_}
 use mathlib.Core.List.{List, [], _∷_, _++_, map}
 use lib.Dec.{eqb}
 use lib.IntN.{ℤ}
-use lib.ListN.{length, take, drop}
+use lib.ListN.{length, getD, take, drop, replicate}
+use Rattle.standard.specs.Lists.{listFrom}
 use Rattle.standard.specs.First.{Answer, test, first}
-use Rattle.standard.specs.Bits.{bitAt, bitsIn, bytesOf, bytesFor, nth}
+use Rattle.standard.specs.Bits.{bitAt, bitsIn, field, bytesOf, bytesFor, nth}
 use Rattle.standard.specs.Record.{topIndex, noRecord}
 use Rattle.standard.specs.Cp.{cpLength, cpByteCount, cpBytes, recordIn}
 use Rattle.standard.specs.Octets.{sampleOf}
 use Rattle.standard.specs.Dil.{defaultDil}
+use Rattle.standard.specs.Plan.{pointsFor, sumOf, lowestMask}
 use Rattle.standard.specs.Frame.{dataBits, sendFrames, sendAfter, receiveFrames, receiveMarks, receiveAfter}
-use Rattle.standard.specs.Refusals.{shorter, readTests, writeTests, frameTests}
+use Rattle.standard.specs.Refusals.{shorter, readTests, writeTests, frameTests, planTests}
 use Rattle.standard.specs.declared.Law.{Law}
 use Rattle.standard.specs.declared.LineState.{LineState}
 use Rattle.standard.specs.declared.Record.{Record}
@@ -159,3 +161,43 @@ dilRefusal c = first (test 17 (shorter (c .octets) (length (defaultDil (c .law))
 -- 'The sender writes the whole sequence in either law'
 unfoldable pub dilOctets : DilCall → List ℕ
 dilOctets c = cond (accepted (dilRefusal c)) (over (defaultDil (c .law)) (c .octets)) (c .octets)
+
+-- ---- the planner
+
+-- 'Planners name K, a law, a spacing from 1 to 65,535 and a ceiling'
+pub record PlanCall : Type 0 where
+  pub k : ℕ
+  pub law : Law
+  pub spacing : ℕ
+  pub ceiling : ℕ
+
+abbrev pub planCall : ℕ → Law → ℕ → ℕ → PlanCall
+planCall k l d ceiling = record { k = k; law = l; spacing = d; ceiling = ceiling }
+
+unfoldable pub planRefusal : PlanCall → Answer
+planRefusal c = first (planTests (c .k) (c .law) (c .spacing) (c .ceiling))
+
+-- 'The tool gives one mask for all six intervals with M points'; beside a refusal M is 0, the mask is empty and its sum is 0
+unfoldable pub planPoints : PlanCall → ℕ
+planPoints c = cond (accepted (planRefusal c)) (pointsFor (c .k)) 0
+
+unfoldable pub planMask : PlanCall → ℕ → Bool
+planMask c u = accepted (planRefusal c) && lowestMask (c .law) (c .spacing) (pointsFor (c .k)) u
+
+unfoldable pub planSum : PlanCall → ℕ
+planSum c = sumOf (c .law) (planMask c)
+
+-- the mask's two halves
+unfoldable pub planHalves : PlanCall → List ℕ
+planHalves c = listFrom (λ h. field (planMask c) (64 * h) 64) 0 2
+
+-- the record with a mask of these halves 'for all six intervals', for K
+unfoldable pub oneMask : ℕ → List ℕ → Record
+oneMask k halves =
+    record {
+      granted = false;
+      drn = k - 14;
+      acknowledge = false;
+      index = replicate 6 0;
+      mask = getD halves 0 0 ∷ getD halves 1 0 ∷ replicate 10 0;
+    }

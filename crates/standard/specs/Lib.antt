@@ -10,6 +10,7 @@ pub mod Modulus
 pub mod Signs
 pub mod Octets
 pub mod Dil
+pub mod Plan
 pub mod Frame
 pub mod Refusals
 pub mod Calls

@@ -1,6 +1,6 @@
 -- Counting and lists: what the papers take for granted. Assumes nothing.
 use Prim.Native.Nat.{ℕ, zero, suc, _+_, max}
-use mathlib.Core.Bool.{Bool, false, _||_}
+use mathlib.Core.Bool.{Bool, false, cond, _||_}
 use mathlib.Core.List.{List, [], _∷_, _++_}
 use lib.ListN.{take, drop}
 
@@ -18,6 +18,16 @@ any f i (suc n) = any f i n || f (i + n)
 unfoldable pub largest : (ℕ → ℕ) → ℕ → ℕ
 largest f zero = 0
 largest f (suc n) = max (largest f n) (f n)
+
+-- the lowest of the n numbers from i on where f holds; i + n where it holds at none of them
+unfoldable pub lowestFrom : (ℕ → Bool) → ℕ → ℕ → ℕ
+lowestFrom f i zero = i
+lowestFrom f i (suc n) = cond (f i) i (lowestFrom f (suc i) n)
+
+-- those of the n numbers from i on where f holds, the lowest first
+unfoldable pub listWhere : (ℕ → Bool) → ℕ → ℕ → List ℕ
+listWhere f i zero = []
+listWhere f i (suc n) = cond (f i) (i ∷ []) [] ++ listWhere f (suc i) n
 
 -- the first n parts of a list, k elements each
 unfoldable pub parts : {X : Type 0} → ℕ → ℕ → List X → List (List X)

@@ -1,5 +1,5 @@
--- Document 01, 'When the codec declines', and document 02, A.8: the tests 1 to 17 and 25, each under a name, and the lists of them in
--- the papers' order. Assumes nothing.
+-- Document 01, 'When the codec declines', and document 02, A.8 and A.10: the tests 1 to 17 and 25 to 28, each under a name, and the lists
+-- of them in the papers' order. Assumes nothing.
 use Prim.Native.Nat.{ℕ, _+_, _*_, _-_, _^_}
 use mathlib.Core.Bool.{Bool, not, _&&_, _||_}
 use mathlib.Core.List.{List, [], _∷_, _++_}
@@ -10,8 +10,10 @@ use Rattle.standard.specs.First.{Answer, bare, valued, Test, test, value
 use Rattle.standard.specs.Bits.{positive, bitAt}
 use Rattle.standard.specs.Record.{indexOf, topIndex, halfOf, K}
 use Rattle.standard.specs.Cp.{cpLength, within, startBitSet, crcMatches, recordIn}
-use Rattle.standard.specs.Constellation.{size, sizes}
+use Rattle.standard.specs.Constellation.{sizeOf, size, sizes}
 use Rattle.standard.specs.Modulus.{product}
+use Rattle.standard.specs.Plan.{pointsFor, sumOf, lowestMask}
+use Rattle.standard.specs.declared.Law.{Law}
 use Rattle.standard.specs.declared.LineState.{LineState}
 use Rattle.standard.specs.declared.Outcome.{Outcome}
 use Rattle.standard.specs.declared.Outcome.the-variants.{Done, Refused}
@@ -21,6 +23,7 @@ use Rattle.standard.specs.declared.Refusal.the-variants.{CountExceedsByt
 use Rattle.standard.specs.declared.Refusal.the-variants.{StartBitSet, CrcMismatch, FixedBitWrong, DrnTooLarge, GrantedBelowFullRate}
 use Rattle.standard.specs.declared.Refusal.the-variants.{ProductTooSmall, MaskAboveIndices, FramesAtCleardown, HistoryTooLarge}
 use Rattle.standard.specs.declared.Refusal.the-variants.{TooManyFrames, InputTooShort, OutputTooShort, IntervalEmpty}
+use Rattle.standard.specs.declared.Refusal.the-variants.{RateOrSpacingOutside, NoMask, SumExceedsCeiling}
 
 -- 'A refusal carries its number'; 25 carries the interval too
 abbrev pub refusalAnswer : Refusal → Answer
@@ -42,6 +45,9 @@ refusalAnswer TooManyFrames = bare 15
 refusalAnswer InputTooShort = bare 16
 refusalAnswer OutputTooShort = bare 17
 refusalAnswer (IntervalEmpty i) = valued 25 i
+refusalAnswer RateOrSpacingOutside = bare 26
+refusalAnswer NoMask = bare 27
+refusalAnswer SumExceedsCeiling = bare 28
 
 -- the answer of an outcome: 0 where nothing is refused
 abbrev pub outcomeAnswer : Outcome → Answer
@@ -112,6 +118,18 @@ tooManyFrames n = ltb 1024 n
 abbrev pub shorter : {X : Type 0} → List X → ℕ → Bool
 shorter xs needed = ltb (length xs) needed
 
+-- 26 (A.10). 'K is outside 15 to 42 or the spacing outside its range', 'from 1 to 65,535'
+unfoldable pub rateOrSpacingOutside : ℕ → ℕ → Bool
+rateOrSpacingOutside k d = not (within 15 42 k) || not (within 1 65535 d)
+
+-- 27 (A.10). 'no mask of M points keeps the spacing': the lowest that keep it are fewer
+unfoldable pub noMask : ℕ → Law → ℕ → Bool
+noMask k l d = ltb (sizeOf (lowestMask l d (pointsFor k)) 128) (pointsFor k)
+
+-- 28 (A.10). 'the least sum exceeds the ceiling'
+unfoldable pub sumExceedsCeiling : ℕ → Law → ℕ → ℕ → Bool
+sumExceedsCeiling k l d ceiling = ltb ceiling (sumOf l (lowestMask l d (pointsFor k)))
+
 -- ---- the lists
 
 -- 25 for each interval, so that the first that applies has 'the lowest such interval'
@@ -160,3 +178,8 @@ bufferTests readShort writeShort = test 16 readShort ∷ test 17 writeShort ∷ 
 -- 'sender and receiver 4 and 9 to 17', and 25
 unfoldable pub frameTests : Record → LineState → ℕ → Bool → Bool → List Test
 frameTests r st n readShort writeShort = (recordTests r ++ lineTests r st n) ++ bufferTests readShort writeShort
+
+-- 26, 27 and 28
+unfoldable pub planTests : ℕ → Law → ℕ → ℕ → List Test
+planTests k l d ceiling =
+    test 26 (rateOrSpacingOutside k d) ∷ test 27 (noMask k l d) ∷ test 28 (sumExceedsCeiling k l d ceiling) ∷ []

@@ -21,7 +21,7 @@ pub struct LineState {
     pub sign: bool,
 }
 
-// The refusals 1 to 17, and 25 with the interval whose mask is empty.
+// The refusals 1 to 17, 25 with the interval whose mask is empty, and 26 to 28.
 pub enum Refusal {
     CountExceedsBytes,
     CountTooSmall,
@@ -41,6 +41,9 @@ pub enum Refusal {
     InputTooShort,
     OutputTooShort,
     IntervalEmpty(u8),
+    RateOrSpacingOutside,
+    NoMask,
+    SumExceedsCeiling,
 }
 
 pub enum Outcome {
@@ -64,4 +67,12 @@ pub struct CpWritten {
 pub struct FramesDone {
     pub outcome: Outcome,
     pub state: LineState,
+}
+
+// The answer of the planner: M, the mask's halves and its sum of squared linear values. They are 0 where the outcome is a refusal.
+pub struct Planned {
+    pub outcome: Outcome,
+    pub points: u32,
+    pub mask: [u64; 2],
+    pub sum: u64,
 }

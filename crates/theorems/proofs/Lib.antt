@@ -12,3 +12,4 @@ pub mod Instance
 pub mod Empty
 pub mod Lengths
 pub mod Dil
+pub mod Plan

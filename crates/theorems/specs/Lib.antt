@@ -4,4 +4,5 @@ pub mod RoundTrip
 pub mod Empty
 pub mod Lengths
 pub mod Dil
+pub mod Plan
 pub mod Ignored

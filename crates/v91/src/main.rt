@@ -4,6 +4,7 @@
 mod asked;
 mod cp_file;
 mod output;
+mod planner;
 mod script;
 mod stream;
 
@@ -25,11 +26,13 @@ fn help(e: Ends) -> bool {
   v91 receive CPFILE LAW BYTES          the same, but no more than so many bytes of data
   v91 linear LAW < octets > text        linear samples, one a line
   v91 dil LAW > octets                  the default DIL, V.91's learning sequence: 1,500 octets
+  v91 plan K LAW SPACING CEILING        the mask for K whose linear values keep SPACING, of the least sum of squares
+  v91 plan K LAW SPACING CEILING svg > FILE, cp > FILE   the same as a picture, or the CP with this mask
   v91 demo                              an example: a CP, 63 bits sent and received, and one octet damaged
   v91 demo cp > FILE                    the CP of the example
   v91 run FILE                          the commands in FILE, one a line, each with its own < FILE and > FILE
   v91 help, v91 --version
-LAW is mu or a (ulaw, alaw). A CP file has 37, 54, 71, 88, 105 or 122 bytes.
+LAW is mu or a (ulaw, alaw). K is 15 to 42, SPACING 1 to 65535; CEILING is the most that the sum may be. A CP file has 37, 54, 71, 88, 105 or 122 bytes.
 The word progress after LAW has send, receive and linear show how far they are, as they do where standard error is a terminal.
 The last line on standard error is `v91: ok` or `v91: failed`; bin/v91 ends with status 0 or 1 by it.
 ",
@@ -61,7 +64,7 @@ fn unknown(e: Ends, words: &[u8]) -> bool {
 
 // The number of the command that the first word names, in the order of `run_command`.
 pub(crate) fn command_of(words: &[u8]) -> usize {
-    let names = b"cp\nsend\nreceive\nlinear\ndil\ndemo\nhelp\n--help\n-h\n--version\nrun\n";
+    let names = b"cp\nsend\nreceive\nlinear\ndil\nplan\ndemo\nhelp\n--help\n-h\n--version\nrun\n";
     words::which(names, b'\n', words::nth_part(words, 0, 0))
 }
 
@@ -73,11 +76,12 @@ pub(crate) fn run_command(e: Ends, words: &[u8], command: usize) -> bool {
         3 => has(e, words, 3, 5) && stream::receive(e, words),
         4 => has(e, words, 2, 3) && stream::linear(e, words),
         5 => has(e, words, 2, 2) && output::dil(e, words),
-        6 => has(e, words, 1, 2) && output::demo(e, words),
-        7 => help(e),
+        6 => has(e, words, 5, 6) && planner::plan(e, words),
+        7 => has(e, words, 1, 2) && output::demo(e, words),
         8 => help(e),
         9 => help(e),
-        10 => write(e, b"v91 2\n"),
+        10 => help(e),
+        11 => write(e, b"v91 3\n"),
         _ => unknown(e, words),
     }
 }
@@ -88,7 +92,7 @@ fn run_words(e: Ends, words: &[u8]) -> bool {
         return help(e);
     }
     let command = command_of(words);
-    if command == 11 {
+    if command == 12 {
         return has(e, words, 2, 2) && script::run(e, words);
     }
     run_command(e, words, command)

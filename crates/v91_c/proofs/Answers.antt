@@ -12,10 +12,10 @@ use lib.ListN.{length}
 use Rattle.standard.specs.First.{Answer, bare, Test, first}
 use Rattle.standard.specs.Record.{topIndex}
 use Rattle.standard.specs.Cp.{cpByteCount}
-use Rattle.standard.specs.Refusals.{outcomeAnswer, shorter, recordTests, readTests, writeTests}
+use Rattle.standard.specs.Refusals.{outcomeAnswer, shorter, recordTests, readTests, writeTests, planTests}
 use Rattle.standard.specs.Calls.{accepted, over, readCall, readRefusal, readRecord, WriteCall, writeCall, writeRefusal, writeBitCount}
 use Rattle.standard.specs.Calls.{writeBytes, sendCall, sendRefusal, sendLeft, sendOctets, receiveCall, receiveRefusal, receiveLeft}
-use Rattle.standard.specs.Calls.{receiveBytes, receiveMarked, dilCall, dilRefusal, dilOctets}
+use Rattle.standard.specs.Calls.{receiveBytes, receiveMarked, dilCall, dilRefusal, dilOctets, planCall, planRefusal, planHalves, planSum}
 use Rattle.standard.specs.declared.Law.{Law}
 use Rattle.standard.specs.declared.LineState.{LineState}
 use Rattle.standard.specs.declared.Outcome.{Outcome}
@@ -25,12 +25,13 @@ use Rattle.standard.proofs.Lists.{or-none}
 use Rattle.standard.proofs.First.{None, none-first, first-append, first-left}
 use Rattle.standard.proofs.Stages.{refused-not}
 use Rattle.standard.proofs.Dil.{length-defaultDil}
-use Rattle.standard.proofs.Refusals.{top-lt, read-numbered, write-numbered}
+use Rattle.standard.proofs.Refusals.{top-lt, read-numbered, write-numbered, plan-numbered}
 use Rattle.forms.specs.Coded.{coded}
 use Rattle.forms.specs.RecordBytes.{recordLength, recordBytes, recordAt}
 use Rattle.forms.specs.StateBytes.{stateLength, stateBytes, stateAt}
+use Rattle.forms.specs.PlanBytes.{planLength, planBytes}
 use Rattle.v91_c.specs.Interface.{lawOf, answered, frameAnswer, stateLeft, v91ReadCp, v91WriteCp, v91Send, v91Receive}
-use Rattle.v91_c.specs.Interface.{v91SendDil}
+use Rattle.v91_c.specs.Interface.{v91SendDil, v91Plan}
 
 -- ---- an outcome in one number: 0 where nothing is refused, and only there
 
@@ -214,3 +215,29 @@ module _ (a : Bool) (octets : List ℕ) {l : Law} (el : l ≡ lawOf a) (o : Outc
   pub dil-done : k ≡ 0 → v91SendDil a octets ≡ record { answer = 1500; octets = os }
   unfolding v91SendDil answered
   dil-done z = rw (eos, ← el, ← eo, code-done o k ek z, length-defaultDil)
+
+-- ---- v91_plan
+
+module _ (k : ℕ) (a : Bool) (d ceiling : ℕ) (bytes : List ℕ) {l : Law} (el : l ≡ lawOf a) (o : Outcome)
+    (eo : outcomeAnswer o ≡ planRefusal (planCall k l d ceiling)) {n : ℕ} (en : n ≡ coded (outcomeAnswer o)) where
+  pub plan-refused : (n ≡ 0 → ⊥) → v91Plan k a d ceiling bytes ≡ record { answer = n; bytes = bytes }
+  unfolding v91Plan answered planRefusal
+  plan-refused p =
+      let no = code-refused o n en p in
+      rw (← el, first-left (planTests k l d ceiling) _ (refused-first (planTests k l d ceiling) (ap accepted (sym eo) ∙ no)), ← eo, no, en)
+
+  module _ (z : n ≡ 0) where
+    no-fault : None (planTests k l d ceiling)
+    unfolding planRefusal
+    no-fault =
+        none-first (planTests k l d ceiling) (plan-numbered k l d ceiling) (eqb-true _ 0 (ap accepted (sym eo) ∙ code-done o n en z))
+
+    pub plan-short : length bytes < planLength → v91Plan k a d ceiling bytes ≡ record { answer = 17; bytes = bytes }
+    unfolding v91Plan answered first
+    plan-short h = rw (← el, first-append (planTests k l d ceiling) _ no-fault, lt-ltb _ _ h)
+
+    pub plan-done : planLength ≤ length bytes → (halves : List ℕ) → halves ≡ planHalves (planCall k l d ceiling) → (sum : ℕ)
+        → sum ≡ planSum (planCall k l d ceiling) → (left : List ℕ) → left ≡ over (planBytes halves sum) bytes
+        → v91Plan k a d ceiling bytes ≡ record { answer = 0; bytes = left }
+    unfolding v91Plan answered first
+    plan-done long halves eh sum es left e = rw (← el, first-append (planTests k l d ceiling) _ no-fault, le-ltb _ _ long, e, eh, es)

@@ -5,18 +5,19 @@ use mathlib.Core.List.{List, [], _∷_, _++_}
 use lib.Dec.{eqb}
 use lib.ListN.{length}
 use Rattle.standard.specs.First.{Answer, Test, test, first}
-use Rattle.standard.specs.Refusals.{shorter, readTests}
+use Rattle.standard.specs.Refusals.{shorter, readTests, planTests}
 use Rattle.standard.specs.Dil.{defaultDil}
 use Rattle.standard.specs.Calls.{accepted, over, readCall, readRecord, writeCall, writeRefusal, writeBitCount, writeBytes}
 use Rattle.standard.specs.Calls.{sendCall, sendRefusal, sendLeft, sendOctets}
 use Rattle.standard.specs.Calls.{receiveCall, receiveRefusal, receiveLeft, receiveBytes, receiveMarked}
-use Rattle.standard.specs.Calls.{dilCall, dilRefusal, dilOctets}
+use Rattle.standard.specs.Calls.{dilCall, dilRefusal, dilOctets, planCall, planHalves, planSum}
 use Rattle.standard.specs.declared.Law.{Law}
 use Rattle.standard.specs.declared.Law.the-variants.{Mu, A}
 use Rattle.standard.specs.declared.LineState.{LineState}
 use Rattle.forms.specs.Coded.{coded}
 use Rattle.forms.specs.RecordBytes.{recordLength, recordBytes, recordAt}
 use Rattle.forms.specs.StateBytes.{stateLength, stateBytes, stateAt}
+use Rattle.forms.specs.PlanBytes.{planLength, planBytes}
 
 -- the flag a_law
 abbrev pub lawOf : Bool → Law
@@ -112,3 +113,16 @@ v91SendDil aLaw octets =
     answered (dilRefusal call)
     (record { answer = length (defaultDil (lawOf aLaw)); octets = dilOctets call })
     (λ n. record { answer = n; octets = octets })
+
+-- ---- v91_plan: 26, 27 and 28, then 17 for the buffer to be written
+
+pub record AfterPlan : Type 0 where
+  pub answer : ℕ
+  pub bytes : List ℕ
+
+unfoldable pub v91Plan : ℕ → Bool → ℕ → ℕ → List ℕ → AfterPlan
+v91Plan k aLaw spacing ceiling bytes =
+    let call = planCall k (lawOf aLaw) spacing ceiling in
+    answered (first (planTests k (lawOf aLaw) spacing ceiling ++ (test 17 (shorter bytes planLength) ∷ [])))
+    (record { answer = 0; bytes = over (planBytes (planHalves call) (planSum call)) bytes })
+    (λ n. record { answer = n; bytes = bytes })

@@ -1,5 +1,6 @@
 // The C interface: interop/v91.h declares these functions.
 use dil::DIL_OCTETS;
+use forms::PLAN_BYTES;
 use forms::RECORD_BYTES;
 use forms::STATE_BYTES;
 use standard::FramesDone;
@@ -15,7 +16,7 @@ ghost use Rattle.forms.specs.Coded.{coded};
 ghost use Rattle.forms.specs.RecordBytes.{recordLength};
 ghost use Rattle.forms.specs.StateBytes.{stateLength};
 ghost use Rattle.v91_c.specs.Interface.{lawOf, answered, stateLeft, v91ReadCp, v91WriteCp, v91Send, v91Receive};
-ghost use Rattle.v91_c.specs.Interface.{v91SendDil};
+ghost use Rattle.v91_c.specs.Interface.{v91SendDil, v91Plan};
 
 // The law that the flag `a_law` names.
 fn law_of(a_law: bool) -> Law
@@ -151,4 +152,22 @@ pub extern "C" fn v91_send_dil(a_law: bool, octets: &mut [u8]) -> u32
         return refusal;
     }
     DIL_OCTETS as u32
+}
+
+// Plans a mask for a wanted rate: puts it and its sum of squares into the first 24 bytes.
+#[no_mangle]
+pub extern "C" fn v91_plan(k: u32, a_law: bool, spacing: u32, ceiling: u64, bytes: &mut [u8]) -> u32
+    ensures { λ r. ⌜ v91Plan k «a_law» spacing ceiling (now (bytes .entry)) ≡ record { answer = r; bytes = now (bytes .exit) } ⌝ }
+{
+    let planned = plan::plan(k, law_of(a_law), spacing, ceiling);
+    let outcome = planned.outcome;
+    let refusal = forms::code_of(outcome);
+    if refusal != 0 {
+        return refusal;
+    }
+    if bytes.len() < PLAN_BYTES {
+        return 17;
+    }
+    forms::plan_into(planned, bytes);
+    0
 }

@@ -3,6 +3,7 @@ mod parts;
 
 pub use parts::Number;
 pub use parts::Part;
+pub use parts::all_digits;
 pub use parts::nth_part;
 pub use parts::number_in;
 pub use parts::part_at;
@@ -138,13 +139,22 @@ pub fn add_message(
     end
 }
 
-// Adds what a template says with three numbers; the place after it is within the text too.
+// Adds what a template says with numbers; the place after it is within the text too.
+pub fn add_values(text: &mut [u8], at: usize, template: &[u8], values: &[u64]) -> usize
+    requires { ⌜ at ≤ length (now text) ⌝ }
+    ensures { λ end. ⌜ Added (now (text .entry)) at (message (now (template .entry)) (now (values .entry)) []) (now (text .exit)) end
+        × (end ≤ length (now (text .entry))) ⌝ }
+{
+    add_message(text, at, template, values, b"")
+}
+
+// The same with three numbers.
 pub fn add_numbers(text: &mut [u8], at: usize, template: &[u8], a: u64, b: u64, c: u64) -> usize
     requires { ⌜ at ≤ length (now text) ⌝ }
     ensures { λ end. ⌜ Added (now (text .entry)) at (message (now (template .entry)) (a ∷ b ∷ c ∷ []) []) (now (text .exit)) end
         × (end ≤ length (now (text .entry))) ⌝ }
 {
-    add_message(text, at, template, &[a, b, c], b"")
+    add_values(text, at, template, &[a, b, c])
 }
 
 // The same with a name and no number.

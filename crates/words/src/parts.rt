@@ -132,7 +132,7 @@ pub fn which(text: &[u8], e: u8, word: &[u8]) -> usize
 }
 
 // Whether every character is a digit.
-fn all_digits(word: &[u8]) -> bool
+pub fn all_digits(word: &[u8]) -> bool
     ensures { λ r. ⌜ r ≡ allDigits (now (word .entry)) ⌝ }
 {
     let mut i = 0;

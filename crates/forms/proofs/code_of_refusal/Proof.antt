@@ -62,6 +62,15 @@ enum-told-16 c = search needs
 enum-told-17 : tie.Need-enum-told-17
 enum-told-17 c = search needs
 
+enum-told-18 : tie.Need-enum-told-18
+enum-told-18 c = search needs
+
+enum-told-19 : tie.Need-enum-told-19
+enum-told-19 c = search needs
+
+enum-told-20 : tie.Need-enum-told-20
+enum-told-20 c = search needs
+
 enum-known-x : tie.Need-enum-known-x
 enum-known-x c = search needs
 
@@ -128,6 +137,15 @@ returns-17 c = arm (c .enum-told17 .given .1)
 returns-18 : tie.Need-returns-18
 returns-18 c = arm (c .before .x .given .1)
 
+returns-19 : tie.Need-returns-19
+returns-19 c = arm (c .enum-told18 .given .1)
+
+returns-20 : tie.Need-returns-20
+returns-20 c = arm (c .enum-told19 .given .1)
+
+returns-21 : tie.Need-returns-21
+returns-21 c = arm (c .enum-told20 .given .1)
+
 pub code-of-refusal-spec : {M : Type 1} → statement M
 code-of-refusal-spec =
     tie.close
@@ -153,6 +171,9 @@ code-of-refusal-spec =
     cast-result
     mul-result
     add-result
+    enum-told-18
+    enum-told-19
+    enum-told-20
     returns
     returns-2
     returns-3
@@ -170,4 +191,7 @@ code-of-refusal-spec =
     returns-15
     returns-16
     returns-17
-    returns-18)
+    returns-18
+    returns-19
+    returns-20
+    returns-21)
