@@ -18,6 +18,11 @@ ghost use Rattle.forms.specs.StateBytes.{stateLength};
 ghost use Rattle.v91_c.specs.Interface.{lawOf, answered, stateLeft, v91ReadCp, v91WriteCp, v91Send, v91Receive};
 ghost use Rattle.v91_c.specs.Interface.{v91SendDil, v91Plan};
 
+// The refusals 16 and 17, which are answered here for a record, a line state or a plan.
+const INPUT_TOO_SHORT: u32 = 16;
+
+const OUTPUT_TOO_SHORT: u32 = 17;
+
 // The law that the flag `a_law` names.
 fn law_of(a_law: bool) -> Law
     ensures { λ l. ⌜ l ≡ lawOf «a_law» ⌝ }
@@ -43,7 +48,7 @@ pub extern "C" fn v91_write_cp(rec: &[u8], cp: &mut [u8]) -> u32
     ensures { λ r. ⌜ v91WriteCp (now (rec .entry)) (now (cp .entry)) ≡ record { answer = r; cp = now (cp .exit) } ⌝ }
 {
     if rec.len() < RECORD_BYTES {
-        return 16;
+        return INPUT_TOO_SHORT;
     }
     let done = cp::write_cp(forms::record_from(rec), cp);
     let count = done.bit_count as u32;
@@ -67,7 +72,7 @@ pub extern "C" fn v91_read_cp(cp: &[u8], bit_count: usize, rec: &mut [u8]) -> u3
         return refusal;
     }
     if rec.len() < RECORD_BYTES {
-        return 17;
+        return OUTPUT_TOO_SHORT;
     }
     forms::record_into(read.record, rec);
     0
@@ -110,7 +115,7 @@ pub extern "C" fn v91_send(
         ≡ record { answer = r; octets = now (octets .exit); state = now (state .exit) } ⌝ }
 {
     if lent_short(rec.len(), state.len()) {
-        return 16;
+        return INPUT_TOO_SHORT;
     }
     let r = forms::record_from(rec);
     let line = forms::state_from(state);
@@ -134,7 +139,7 @@ pub extern "C" fn v91_receive(
         ≡ record { answer = r; bits = now (bits .exit); marks = now (marks .exit); state = now (state .exit) } ⌝ }
 {
     if lent_short(rec.len(), state.len()) {
-        return 16;
+        return INPUT_TOO_SHORT;
     }
     let r = forms::record_from(rec);
     let line = forms::state_from(state);
@@ -166,7 +171,7 @@ pub extern "C" fn v91_plan(k: u32, a_law: bool, spacing: u32, ceiling: u64, byte
         return refusal;
     }
     if bytes.len() < PLAN_BYTES {
-        return 17;
+        return OUTPUT_TOO_SHORT;
     }
     forms::plan_into(planned, bytes);
     0
