@@ -1,16 +1,15 @@
 -- What the planner answers, by what came of the choice. Assumes nothing.
-use mathlib.Core.Path.{_≡_, refl, sym, ap, ap₂, _∙_}
+use mathlib.Core.Path.{_≡_, refl, sym, ap, _∙_}
 use Prim.Native.Nat.{ℕ, _+_, _≤_, _<_}
-use mathlib.Core.Bool.{Bool, true, false}
-use mathlib.Core.List.{List, [], _∷_}
+use mathlib.Core.Bool.{true, false}
+use mathlib.Core.List.{[], _∷_}
 use native.Mathlib.Omega.{arith}
 use borrow.Author.Tests.{lt-ltb, le-ltb}
-use lib.Dec.{eqb}
 use Rattle.standard.specs.Lists.{listFrom, listWhere}
-use Rattle.standard.specs.First.{Answer, bare, first}
+use Rattle.standard.specs.First.{bare, first}
 use Rattle.standard.specs.Bits.{field}
 use Rattle.standard.specs.Constellation.{sizeOf}
-use Rattle.standard.specs.Plan.{Choice, pointsFor, linearValues, sumOfSquares, sumOf, choiceAt, lowestMask}
+use Rattle.standard.specs.Plan.{Choice, pointsFor, linearValues, sumOfSquares, sumOf, lowestMask}
 use Rattle.standard.specs.Refusals.{refusalAnswer, outcomeAnswer, rateOrSpacingOutside, noMask, sumExceedsCeiling, planTests}
 use Rattle.standard.specs.Calls.{PlanCall, accepted, planCall, planRefusal, planPoints, planMask, planHalves, planSum}
 use Rattle.standard.specs.declared.Law.{Law}

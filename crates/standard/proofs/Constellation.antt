@@ -28,6 +28,18 @@ unfolding sizeOf
 sizeOf-split m b zero = ap (sizeOf m) (add-zero b) ∙ sym (omega arith)
 sizeOf-split m b (suc a) = ap (sizeOf m) (add-suc b a) ∙ omega (arith, sizeOf-split m b a)
 
+-- a mask of n Ucodes below n has them all
+pub sizeOf-full : (m : ℕ → Bool) (n : ℕ) → sizeOf m n ≡ n → (u : ℕ) → u < n → m u ≡ true
+unfolding sizeOf
+sizeOf-full m zero e u h = absurd (not-suc-le-zero h)
+sizeOf-full m (suc n) e u h =
+    go (sizeOf-full m n (omega (arith, weight-lt (m n), sizeOf-le m n)) u) (m n) refl (eq-or-lt-of-le (le-of-suc-le-suc h))
+  where
+    go : (u < n → m u ≡ true) → (b : Bool) → m n ≡ b → (u ≡ n) ⊎ (u < n) → m u ≡ true
+    go ih b q (inr l) = ih l
+    go ih true q (inl z) = ap m z ∙ q
+    go ih false q (inl z) = absurd (omega (arith, ap weight q, sizeOf-le m n))
+
 -- ---- a point has the label that names it
 
 pub record Names (m : ℕ → Bool) (n c u : ℕ) : Type 0 where

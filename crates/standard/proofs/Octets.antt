@@ -1,7 +1,7 @@
 -- Laws of octets: both laws of V.90 Table 1, there and back, by one computed test over the table; and of linear values. Assumes nothing.
 use mathlib.Core.Path.{_≡_}
 use mathlib.Core.Logic.{_⊎_, inl, inr}
-use Prim.Native.Nat.{ℕ, zero, suc, _+_, _^_, _<_}
+use Prim.Native.Nat.{ℕ, zero, suc, _^_, _<_}
 use mathlib.Core.Bool.{Bool, true, false, _&&_, Bool·beq}
 use native.Mathlib.Nat.{mod-lt, not-suc-le-zero, le-of-suc-le-suc, eq-or-lt-of-le, lt-trans}
 use native.Mathlib.Omega.{arith}

@@ -5,19 +5,19 @@ use Prim.Native.Nat.{ℕ, zero, suc, _+_, _*_, _-_, _/_, _^_, _≤_, _<_, zero-l
 use mathlib.Core.Bool.{Bool, true, false, not, cond, _&&_, _||_, and-eq-true-iff, true≢false}
 use mathlib.Core.List.{List, [], _∷_, _++_, map, map-append}
 use native.Mathlib.Decide.{decLt}
-use native.Mathlib.Nat.{add-zero, add-suc, suc-add, zero-add, not-suc-le-zero, suc-ne-zero, le-of-suc-le-suc, eq-or-lt-of-le, le-refl, le-trans, mul-le-mul}
+use native.Mathlib.Nat.{zero-add, not-suc-le-zero, suc-ne-zero, le-of-suc-le-suc, eq-or-lt-of-le, le-refl, mul-le-mul}
 use native.Mathlib.Omega.{arith}
 use borrow.Author.Tests.{leb-true, leb-false, le-leb}
 use lib.Dec.{leb}
 use lib.ListN.{length, getD, drop, length-append}
 use lib.Pow.{pow-mono}
-use Rattle.standard.specs.Lists.{lowestFrom, listWhere}
+use Rattle.standard.specs.Lists.{listWhere}
 use Rattle.standard.specs.First.{Answer, bare}
 use Rattle.standard.specs.Bits.{weight, positive}
 use Rattle.standard.specs.Cp.{within}
 use Rattle.standard.specs.Constellation.{sizeOf}
 use Rattle.standard.specs.Octets.{magnitude}
-use Rattle.standard.specs.Plan.{pointsFor, linearValues, apart, clearOfZero, sumOfSquares, Suits, sumOf, Least, Choice, takes, lookedAt}
+use Rattle.standard.specs.Plan.{pointsFor, linearValues, apart, clearOfZero, sumOfSquares, Suits, sumOf, Choice, lookedAt}
 use Rattle.standard.specs.Plan.{choiceAt, lowestMask}
 use Rattle.standard.specs.Refusals.{rateOrSpacingOutside}
 use Rattle.standard.specs.Calls.{accepted, PlanCall, planRefusal, planMask}
@@ -132,10 +132,10 @@ under-same (y ∷ ys) (x ∷ xs) u h =
 -- ---- the values of a mask, those of the n Ucodes from u on
 
 module _ (l : Law) (m : ℕ → Bool) where
-  abbrev valuesFrom : ℕ → ℕ → List ℕ
+  abbrev pub valuesFrom : ℕ → ℕ → List ℕ
   valuesFrom u n = map (magnitude l) (listWhere m u n)
 
-  in-mask : (u n : ℕ) → m u ≡ true → valuesFrom u (suc n) ≡ magnitude l u ∷ valuesFrom (suc u) n
+  pub in-mask : (u n : ℕ) → m u ≡ true → valuesFrom u (suc n) ≡ magnitude l u ∷ valuesFrom (suc u) n
   unfolding listWhere
   in-mask u n e = rw e
 

@@ -1,7 +1,7 @@
 -- Document 02, A.10, 'Masks for a wanted rate': what is asked of a mask, and the mask that is given. Assumes nothing.
 use mathlib.Core.Path.{_≡_}
 use Prim.Native.Nat.{ℕ, zero, suc, _+_, _*_, _-_, _/_, _^_, _≤_}
-use mathlib.Core.Bool.{Bool, true, false, cond, _&&_}
+use mathlib.Core.Bool.{Bool, true, cond, _&&_}
 use mathlib.Core.List.{List, [], _∷_, map}
 use lib.Dec.{leb}
 use Rattle.standard.specs.Lists.{lowestFrom, listWhere}

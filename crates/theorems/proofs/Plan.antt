@@ -1,37 +1,36 @@
 -- What the planner's answers come to. Assumes nothing.
-use mathlib.Core.Path.{_≡_, refl, sym, ap, ap₂, subst, _∙_}
-use Prim.Native.Nat.{ℕ, zero, suc, _+_, _*_, _-_, _/_, _%_, _^_, _≤_, _<_}
-use mathlib.Core.Bool.{Bool, true, false, not, cond, _&&_, _||_, and-eq-true-iff, and-false, true≢false}
-use mathlib.Core.List.{List, [], _∷_}
-use native.Mathlib.Decide.{decLe, decLt}
+use mathlib.Core.Path.{_≡_, refl, sym, ap, subst, _∙_}
+use Prim.Native.Nat.{ℕ, _+_, _*_, _-_, _/_, _%_, _^_, _≤_, _<_}
+use mathlib.Core.Bool.{Bool, true, false, cond, _&&_, and-eq-true-iff, and-false, true≢false}
+use mathlib.Core.List.{_∷_}
+use native.Mathlib.Decide.{decLt}
 use native.Mathlib.Nat.{zero-add}
 use native.Mathlib.Omega.{arith}
-use borrow.Author.Tests.{leb-true, leb-false, le-leb, lt-leb, ltb-true, ltb-false, lt-ltb, le-ltb, ne-eqb}
-use lib.Dec.{leb, ltb, eqb, lit<}
+use borrow.Author.Tests.{leb-true, le-leb, ltb-true, ltb-false, lt-ltb, le-ltb, ne-eqb}
+use lib.Dec.{leb, eqb, lit<}
 use lib.ListN.{replicate, getD-replicate}
 use lib.Pow.{pow-pos}
 use Rattle.standard.specs.Lists.{listFrom, any, largest, lowestFrom, listWhere}
 use Rattle.standard.specs.First.{Answer, bare, first}
-use Rattle.standard.specs.Bits.{bit, field}
-use Rattle.standard.specs.Record.{indexOf, topIndex, halfOf, inMask}
+use Rattle.standard.specs.Bits.{bit}
+use Rattle.standard.specs.Record.{topIndex, halfOf, inMask}
 use Rattle.standard.specs.Cp.{within}
 use Rattle.standard.specs.Constellation.{sizeOf, member, size, sizes}
-use Rattle.standard.specs.Modulus.{product}
 use Rattle.standard.specs.Octets.{magnitude, magnitudeIn}
-use Rattle.standard.specs.Plan.{pointsFor, linearValues, sumOfSquares, Suits, sumOf, Least, lookedAt, choiceAt, lowestMask}
+use Rattle.standard.specs.Plan.{pointsFor, linearValues, clearOfZero, sumOfSquares, Suits, sumOf, lookedAt, choiceAt, lowestMask}
 use Rattle.standard.specs.Refusals.{indexTooLarge, drnTooLarge, grantedBelowFullRate, intervalEmpty, productTooSmall, maskAboveIndices}
 use Rattle.standard.specs.Refusals.{emptyTest, emptyTests, rateTests, recordTests, rateOrSpacingOutside, noMask, sumExceedsCeiling, planTests}
-use Rattle.standard.specs.Calls.{PlanCall, planCall, planRefusal, planPoints, planMask, planSum, planHalves, oneMask}
-use Rattle.standard.specs.declared.Law.{Law}
-use Rattle.standard.specs.declared.Law.the-variants.{Mu, A}
+use Rattle.standard.specs.Calls.{PlanCall, planRefusal, planPoints, planMask, planSum, planHalves, oneMask}
+use Rattle.standard.specs.declared.Law.the-variants.{Mu}
 use Rattle.standard.specs.declared.Record.{Record}
 use Rattle.standard.proofs.Lists.{listFrom-ext}
 use Rattle.standard.proofs.First.{None, first-none, none-append, none-listFrom}
 use Rattle.standard.proofs.Bits.{field-bit}
-use Rattle.standard.proofs.Constellation.{sizeOf-ext}
+use Rattle.standard.proofs.Constellation.{sizeOf-ext, sizeOf-full}
 use Rattle.standard.proofs.Modulus.{product-same}
+use Rattle.standard.proofs.Plan.{valuesFrom, in-mask}
 use Rattle.standard.proofs.Plan.{inside-le, points-enough, points-least, size-wanted, mask-neighbours, mask-smallest, mask-points, mask-least, mask-only, accepted-mask}
-use Rattle.theorems.specs.Plan.{Inside, Fits, IsLeast, _⇔_, PlanTold}
+use Rattle.theorems.specs.Plan.{Inside, Fits, IsLeast, PlanTold}
 
 is-within : (a b n : ℕ) → a ≤ n → n ≤ b → leb a n && leb n b ≡ true
 is-within a b n h k = and-eq-true-iff (leb a n) (leb n b) .1 (le-leb a n h, le-leb n b k)
@@ -226,6 +225,25 @@ module _ (c : PlanCall) where
     unfolding recordTests oneMask planHalves listFrom indexTooLarge maskAboveIndices any topIndex largest
     writes = first-none (recordTests alone) (refl, none-append (rateTests alone) _ rates (refl, tt))
 
+-- ---- µ-law at K = 42
+
+all-points : pointsFor 42 ≡ 128
+unfolding pointsFor lowestFrom
+all-points = refl
+
+first-value : (m : ℕ → Bool) → m 0 ≡ true → linearValues Mu m 128 ≡ 0 ∷ valuesFrom Mu m 1 127
+unfolding linearValues magnitude magnitudeIn
+first-value m e = in-mask Mu m 0 127 e
+
+no-spacing : (d : ℕ) (m : ℕ → Bool) → 0 < d → Suits Mu d 128 m → ⊥
+unfolding clearOfZero
+no-spacing d m p s =
+    let z : leb d (2 * 0) ≡ true = rw (first-value m (sizeOf-full m 128 (s .points) 0 (lit< tt))) at (s .smallest) in
+    omega (arith, leb-true d (2 * 0) z)
+
+mu-full : (c : PlanCall) → Inside c → c .k ≡ 42 → c .law ≡ Mu → planRefusal c ≡ bare 27
+mu-full c i k l = says-no-mask c i (λ m s. no-spacing (c .spacing) m (i .spacing .0) (rw (k, all-points, l) at s))
+
 pub plan-told : PlanTold
 unfolding planSum lowestFrom listWhere sizeOf magnitude magnitudeIn linearValues sumOfSquares lookedAt choiceAt lowestMask pointsFor planRefusal planTests first rateOrSpacingOutside noMask sumExceedsCeiling planMask
 plan-told =
@@ -236,9 +254,11 @@ plan-told =
       noMask = λ c. (answers c 27, λ p. says-no-mask c (p .0) (p .1));
       above = λ c. (answers c 28, λ p. says-above c (p .0) (p .1 .0) (p .1 .1) (p .1 .2));
       within = λ c. (answers c 0, λ p. says-within c (p .0) (p .1 .0) (p .1 .1) (p .1 .2));
-      mask = λ c e. (given c e, points-given c e, refl);
+      mask = λ c e. (given c e, points-given c e);
       only = only;
       sizes = λ c e r d all. (not-empty c e r d all, not-small c e r d all);
       writes = writes;
+      muFull = mu-full;
       example = refl;
+      edges = refl;
     }

@@ -1,8 +1,7 @@
 -- After i turns i Ucodes were looked at, for each number of points that the choice may be of. Assumes nothing.
 use mathlib.Core.Path.{_≡_, refl}
-use Prim.Native.Nat.{ℕ, _-_, _^_, _≤_, _<_}
+use Prim.Native.Nat.{ℕ, _-_, _≤_}
 use native.Mathlib.Omega.{arith}
-use Rattle.plan.specs.Choosing.{Before}
 use Rattle.plan.proofs.Choosing.{Half, half-begun, bits-small, sum-small, half-more}
 use Rattle.plan.proofs.choose_half.Statement.{statement}
 use Rattle.plan.proofs.choose_half.Tie as tie

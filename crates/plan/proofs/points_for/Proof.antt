@@ -1,6 +1,6 @@
 -- The numbers below m are too small: the search goes on from m. Assumes nothing.
 use mathlib.Core.Path.{_≡_, refl, sym, _∙_}
-use Prim.Native.Nat.{ℕ, _+_, _-_, _^_, _≤_, _<_}
+use Prim.Native.Nat.{_-_, _^_, _≤_, _<_}
 use native.Mathlib.Omega.{arith}
 use Rattle.standard.specs.Plan.{pointsFor}
 use Rattle.standard.proofs.Words.{one-shifted}

@@ -1,5 +1,4 @@
 -- The products fit, and come to the sixth power. Assumes nothing.
-use Prim.Native.Nat.{_≤_}
 use native.Mathlib.Omega.{arith}
 use Rattle.plan.proofs.Choosing.{sixth, two-le, three-le, six-le}
 use Rattle.plan.proofs.sixth_power.Statement.{statement}
