@@ -20,7 +20,7 @@ use Rattle.standard.specs.Octets.{magnitude, magnitudeIn}
 use Rattle.standard.specs.Plan.{pointsFor, linearValues, clearOfZero, sumOfSquares, Suits, sumOf, lookedAt, choiceAt, lowestMask}
 use Rattle.standard.specs.Refusals.{indexTooLarge, drnTooLarge, grantedBelowFullRate, intervalEmpty, productTooSmall, maskAboveIndices}
 use Rattle.standard.specs.Refusals.{emptyTest, emptyTests, rateTests, recordTests, rateOrSpacingOutside, noMask, sumExceedsCeiling, planTests}
-use Rattle.standard.specs.Calls.{PlanCall, planRefusal, planPoints, planMask, planSum, planHalves, oneMask}
+use Rattle.standard.specs.Calls.{PlanCall, planRefusal, planPoints, planMask, planHalves, oneMask}
 use Rattle.standard.specs.declared.Law.the-variants.{Mu}
 use Rattle.standard.specs.declared.Record.{Record}
 use Rattle.standard.proofs.Lists.{listFrom-ext}
@@ -29,7 +29,8 @@ use Rattle.standard.proofs.Bits.{field-bit}
 use Rattle.standard.proofs.Constellation.{sizeOf-ext, sizeOf-full}
 use Rattle.standard.proofs.Modulus.{product-same}
 use Rattle.standard.proofs.Plan.{valuesFrom, in-mask}
-use Rattle.standard.proofs.Plan.{inside-le, points-enough, points-least, size-wanted, mask-neighbours, mask-smallest, mask-points, mask-least, mask-only, accepted-mask}
+use Rattle.standard.proofs.Plan.{inside-le, points-enough, points-least, size-wanted}
+use Rattle.standard.proofs.Plan.{mask-neighbours, mask-smallest, mask-points, mask-least, mask-only, accepted-mask}
 use Rattle.theorems.specs.Plan.{Inside, Fits, IsLeast, PlanTold}
 
 is-within : (a b n : ℕ) → a ≤ n → n ≤ b → leb a n && leb n b ≡ true
@@ -245,7 +246,8 @@ mu-full : (c : PlanCall) → Inside c → c .k ≡ 42 → c .law ≡ Mu → plan
 mu-full c i k l = says-no-mask c i (λ m s. no-spacing (c .spacing) m (i .spacing .0) (rw (k, all-points, l) at s))
 
 pub plan-told : PlanTold
-unfolding planSum lowestFrom listWhere sizeOf magnitude magnitudeIn linearValues sumOfSquares lookedAt choiceAt lowestMask pointsFor planRefusal planTests first rateOrSpacingOutside noMask sumExceedsCeiling planMask
+unfolding first listWhere lowestFrom sizeOf magnitude magnitudeIn pointsFor linearValues sumOfSquares lookedAt choiceAt lowestMask
+    rateOrSpacingOutside noMask sumExceedsCeiling planTests planRefusal planMask
 plan-told =
     record {
       enough = points-enough;

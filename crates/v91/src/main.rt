@@ -26,13 +26,14 @@ fn help(e: Ends) -> bool {
   v91 receive CPFILE LAW BYTES          the same, but no more than so many bytes of data
   v91 linear LAW < octets > text        linear samples, one a line
   v91 dil LAW > octets                  the default DIL, V.91's learning sequence: 1,500 octets
-  v91 plan K LAW SPACING CEILING        the mask for K whose linear values keep SPACING, of the least sum of squares
-  v91 plan K LAW SPACING CEILING svg > FILE, cp > FILE   the same as a picture, or the CP with this mask
+  v91 plan K LAW SPACING CEILING        the mask for K that keeps SPACING with the least sum of squares, and a picture of it
+  v91 plan K LAW SPACING CEILING svg > FILE, or cp > FILE: the picture as a drawing, or the CP with this mask
   v91 demo                              an example: a CP, 63 bits sent and received, and one octet damaged
   v91 demo cp > FILE                    the CP of the example
   v91 run FILE                          the commands in FILE, one a line, each with its own < FILE and > FILE
   v91 help, v91 --version
-LAW is mu or a (ulaw, alaw). K is 15 to 42, SPACING 1 to 65535; CEILING is the most that the sum may be. A CP file has 37, 54, 71, 88, 105 or 122 bytes.
+LAW is mu or a (ulaw, alaw). K is 15 to 42, SPACING 1 to 65535, and CEILING the most that the sum may be.
+A CP file has 37, 54, 71, 88, 105 or 122 bytes.
 The word progress after LAW has send, receive and linear show how far they are, as they do where standard error is a terminal.
 The last line on standard error is `v91: ok` or `v91: failed`; bin/v91 ends with status 0 or 1 by it.
 ",

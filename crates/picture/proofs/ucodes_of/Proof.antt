@@ -28,4 +28,5 @@ loop-again c = (
 pub ucodes-of-spec : {M : Type 1} → statement M
 ucodes-of-spec =
     tie.close
-    (tie.spec Inv-loop μ-loop (λ c. omega arith) (λ c. omega arith) (λ c κs. omega arith) (λ c. search needs) add-n (λ c. omega arith) (λ c. omega arith) loop-again (λ c. omega arith) (λ c. omega arith))
+    (tie.spec Inv-loop μ-loop (λ c. omega arith) (λ c. omega arith) (λ c κs. omega arith) (λ c. search needs) add-n (λ c. omega arith)
+    (λ c. omega arith) loop-again (λ c. omega arith) (λ c. omega arith))

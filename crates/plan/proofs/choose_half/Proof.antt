@@ -48,7 +48,9 @@ loop-again c =
     let a = c .before .before .before .before .args in
     let l = c .before .before .before .loop in (
       omega arith,
-      λ M h. half-more (a .law) (a .spacing) M (a .from) (l .i) (l .p) (l .inv .1 M h) _ (c .look-at .result) (c .before .magnitude-of .ensures .0) (c .look-at .ensures),
+      λ M h.
+          half-more (a .law) (a .spacing) M (a .from) (l .i) (l .p) (l .inv .1 M h) _ (c .look-at .result)
+          (c .before .magnitude-of .ensures .0) (c .look-at .ensures),
     )
 
 returns : tie.Need-returns Inv-loop μ-loop

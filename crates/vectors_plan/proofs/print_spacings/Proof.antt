@@ -12,4 +12,6 @@ abbrev μ-loop : tie.MeasureT-loop
 μ-loop k law name largest i₀ i = 9 - i
 
 pub print-spacings-spec : {M : Type 1} → statement M
-print-spacings-spec = tie.close (tie.spec Inv-loop μ-loop (λ c. omega arith) (λ c κs. omega arith) (λ c κs. tt) (λ c. omega arith) (λ c. omega arith) (λ c. omega arith) (λ c. search needs))
+print-spacings-spec =
+    tie.close (tie.spec Inv-loop μ-loop (λ c. omega arith) (λ c κs. omega arith) (λ c κs. tt) (λ c. omega arith) (λ c. omega arith)
+    (λ c. omega arith) (λ c. search needs))

@@ -16,4 +16,5 @@ abbrev μ-loop : tie.MeasureT-loop
 pub add-right-spec : {M : Type 1} → statement M
 add-right-spec =
     tie.close
-    (tie.spec Inv-loop μ-loop (λ c κs. tt) (λ c. omega arith) (λ c. search needs) (λ c κs. omega arith) (λ c. omega arith) (λ c. omega arith) (λ c. omega arith) (λ c. search needs) (λ c κs. omega arith) (λ c. omega arith) (λ c. omega arith))
+    (tie.spec Inv-loop μ-loop (λ c κs. tt) (λ c. omega arith) (λ c. search needs) (λ c κs. omega arith) (λ c. omega arith)
+    (λ c. omega arith) (λ c. omega arith) (λ c. search needs) (λ c κs. omega arith) (λ c. omega arith) (λ c. omega arith))

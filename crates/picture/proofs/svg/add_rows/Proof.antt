@@ -7,7 +7,8 @@ use Rattle.picture.proofs.svg.add_rows.Statement.{statement}
 use Rattle.picture.proofs.svg.add_rows.Tie as tie
 
 abbrev Inv-loop : tie.InvT-loop
-Inv-loop text₀ at law ucodes spacing top end₀ n₀ text end n = (n ≤ length ucodes) × (length ucodes ≤ 128) × (end ≤ length text) × (length text ≡ length text₀)
+Inv-loop text₀ at law ucodes spacing top end₀ n₀ text end n =
+    (n ≤ length ucodes) × (length ucodes ≤ 128) × (end ≤ length text) × (length text ≡ length text₀)
 
 abbrev μ-loop : tie.MeasureT-loop
 μ-loop text₀ at law ucodes spacing top end₀ n₀ text end n = length ucodes - n
@@ -15,4 +16,5 @@ abbrev μ-loop : tie.MeasureT-loop
 pub add-rows-spec : {M : Type 1} → statement M
 add-rows-spec =
     tie.close
-    (tie.spec Inv-loop μ-loop (λ c. omega arith) (λ c κs. omega arith) (λ c κs. omega arith) (λ c. omega arith) (λ c. omega arith) (λ c. omega arith) (λ c. omega arith) (λ c. omega arith))
+    (tie.spec Inv-loop μ-loop (λ c. omega arith) (λ c κs. omega arith) (λ c κs. omega arith) (λ c. omega arith) (λ c. omega arith)
+    (λ c. omega arith) (λ c. omega arith) (λ c. omega arith))
