@@ -2,21 +2,21 @@
 use mathlib.Core.Path.{_≡_, refl, sym, ap, ap₂, _∙_}
 use mathlib.Core.Logic.{_⊎_, inl, inr}
 use Prim.Native.Nat.{ℕ, zero, suc, _+_, _*_, _-_, _/_, _^_, _≤_, _<_}
-use mathlib.Core.Bool.{Bool, true, false, and-eq-true-iff}
+use mathlib.Core.Bool.{Bool, true, false}
 use native.Mathlib.Nat.{add-zero, eq-or-lt-of-le, mul-le-mul, pow-suc, pow-zero, one-mul}
 use native.Mathlib.Omega.{arith}
 use borrow.Author.Tests.{le-leb, lt-leb}
 use lib.Dec.{leb}
 use lib.Pow.{pow-add, pow-mono}
 use Rattle.standard.specs.Lists.{lowestFrom, listWhere}
-use Rattle.standard.specs.Bits.{weight, positive, field}
+use Rattle.standard.specs.Bits.{weight, field}
 use Rattle.standard.specs.Octets.{magnitude}
 use Rattle.standard.specs.Plan.{linearValues, sumOfSquares, takes, lookedAt, choiceAt, lowestMask}
 use Rattle.standard.specs.declared.Law.{Law}
 use Rattle.standard.proofs.Lists.{lowest-hit, lowest-past}
 use Rattle.standard.proofs.Bits.{field-lt, field-split}
 use Rattle.standard.proofs.Octets.{magnitude-lt}
-use Rattle.standard.proofs.Plan.{positive-pos, sum-snoc}
+use Rattle.standard.proofs.Plan.{sum-snoc}
 use Rattle.plan.specs.Choosing.{choiceOf, Before}
 use Rattle.plan.specs.declared.Chosen.{Chosen}
 
@@ -67,24 +67,20 @@ module _ (k : ℕ) where
 pub square-le : (v : ℕ) → v < 2 ^ 15 → v * v ≤ 2 ^ 30
 square-le v h = let k : v ≤ 2 ^ 15 = omega arith in mul-le-mul k k
 
-module _ (c : Chosen) (v : ℕ) where
-  pub taken-wanted : takes (choiceOf c) v ≡ true → 0 < c .wanted
-  taken-wanted e = positive-pos (c .wanted) (and-eq-true-iff (positive (c .wanted)) (leb (c .floor) v) .0 e .0)
+module _ (c : Chosen) (v i d : ℕ) where
+  abbrev pub Looked : Chosen → Type 0
+  Looked r =
+      (r .bits ≡ c .bits + weight (takes (choiceOf c) v) * 2 ^ i) × (choiceOf r ≡ lookedAt d (choiceOf c) v)
+      × (r .sum ≡ c .sum + weight (takes (choiceOf c) v) * (v * v))
 
-  module _ (i d : ℕ) where
-    abbrev pub Looked : Chosen → Type 0
-    Looked r =
-        (r .bits ≡ c .bits + weight (takes (choiceOf c) v) * 2 ^ i) × (choiceOf r ≡ lookedAt d (choiceOf c) v)
-        × (r .sum ≡ c .sum + weight (takes (choiceOf c) v) * (v * v))
+  pub not-taken : takes (choiceOf c) v ≡ false → Looked c
+  unfolding lookedAt
+  not-taken e = rw e (omega arith, refl, omega arith)
 
-    pub not-taken : takes (choiceOf c) v ≡ false → Looked c
-    unfolding lookedAt
-    not-taken e = rw e (omega arith, refl, omega arith)
-
-    pub taken : (one : ℕ) → one ≡ 2 ^ i → takes (choiceOf c) v ≡ true
-        → Looked (record { bits = c .bits + one; floor = v + d; wanted = c .wanted - 1; sum = c .sum + v * v })
-    unfolding lookedAt
-    taken one q e = rw (e, q) (omega arith, refl, omega arith)
+  pub taken : (one : ℕ) → one ≡ 2 ^ i → takes (choiceOf c) v ≡ true
+      → Looked (record { bits = c .bits + one; floor = v + d; wanted = c .wanted - 1; sum = c .sum + v * v })
+  unfolding lookedAt
+  taken one q e = rw (e, q) (omega arith, refl, omega arith)
 
 -- ---- sums and bits of one more
 

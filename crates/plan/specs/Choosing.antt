@@ -5,6 +5,7 @@ use Rattle.standard.specs.Plan.{Choice, linearValues, sumOfSquares, choiceAt, l
 use Rattle.standard.specs.declared.Law.{Law}
 use Rattle.plan.specs.declared.Chosen.{Chosen}
 
+-- what of it the definition has
 abbrev pub choiceOf : Chosen → Choice
 choiceOf c = record { floor = c .floor; wanted = c .wanted }
 

@@ -17,14 +17,15 @@ use Rattle.standard.specs.Bits.{weight, positive}
 use Rattle.standard.specs.Cp.{within}
 use Rattle.standard.specs.Constellation.{sizeOf}
 use Rattle.standard.specs.Octets.{magnitude}
-use Rattle.standard.specs.Plan.{pointsFor, linearValues, apart, clearOfZero, sumOfSquares, Suits, sumOf, Choice, lookedAt}
+use Rattle.standard.specs.Plan.{pointsFor, linearValues, apart, clearOfZero, sumOfSquares, Suits, sumOf, Choice, takes, lookedAt}
 use Rattle.standard.specs.Plan.{choiceAt, lowestMask}
 use Rattle.standard.specs.Refusals.{rateOrSpacingOutside}
 use Rattle.standard.specs.Calls.{accepted, PlanCall, planRefusal, planMask}
 use Rattle.standard.specs.declared.Law.{Law}
 use Rattle.standard.proofs.Lists.{lowest-holds, lowest-le, where-snoc}
 use Rattle.standard.proofs.Octets.{magnitude-rises}
-use Rattle.standard.proofs.Refusals.{and-false-right}
+use Rattle.standard.proofs.Words.{positive-pos, pos-positive}
+use Rattle.standard.proofs.Refusals.{and-false-right, within-le}
 
 -- ---- M
 
@@ -40,9 +41,6 @@ module _ (K : ℕ) (h : K ≤ 42) where
   points-least j e = lowest-le (λ M. leb (2 ^ K) (M ^ 6)) 0 128 j zero-le (le-leb (2 ^ K) (j ^ 6) e)
 
 -- ---- what 26 leaves
-
-within-le : (a b n : ℕ) → within a b n ≡ true → (a ≤ n) × (n ≤ b)
-within-le a b n e = let p = and-eq-true-iff (leb a n) (leb n b) .0 e in (leb-true a n (p .0), leb-true n b (p .1))
 
 pub inside-le : (k d : ℕ) → rateOrSpacingOutside k d ≡ false → ((15 ≤ k) × (k ≤ 42)) × ((1 ≤ d) × (d ≤ 65535))
 unfolding rateOrSpacingOutside
@@ -226,13 +224,16 @@ module _ (l : Law) where
 
 -- ---- the mask that is given
 
-pub positive-pos : (n : ℕ) → positive n ≡ true → 0 < n
-positive-pos zero e = absurd (true≢false (sym e))
-positive-pos (suc n) e = omega arith
+-- a value that is taken
+module _ (c : Choice) (v : ℕ) (e : takes c v ≡ true) where
+  both : (positive (c .wanted) ≡ true) × (leb (c .floor) v ≡ true)
+  both = and-eq-true-iff (positive (c .wanted)) (leb (c .floor) v) .0 e
 
-pos-positive : (n : ℕ) → 0 < n → positive n ≡ true
-pos-positive zero h = absurd (not-suc-le-zero h)
-pos-positive (suc n) h = refl
+  pub takes-wanted : 0 < c .wanted
+  takes-wanted = positive-pos (c .wanted) (both .0)
+
+  takes-floor : c .floor ≤ v
+  takes-floor = leb-true (c .floor) v (both .1)
 
 module _ (l : Law) (d M : ℕ) where
   abbrev at : ℕ → Choice
@@ -243,15 +244,13 @@ module _ (l : Law) (d M : ℕ) where
 
   -- Ucode u is taken
   module _ (u : ℕ) (e : mask u ≡ true) where
-    both : (positive (at u .wanted) ≡ true) × (leb (at u .floor) (magnitude l u) ≡ true)
-    unfolding lowestMask
-    both = and-eq-true-iff (positive (at u .wanted)) (leb (at u .floor) (magnitude l u)) .0 e
-
     taken-wanted : 0 < at u .wanted
-    taken-wanted = positive-pos (at u .wanted) (both .0)
+    unfolding lowestMask
+    taken-wanted = takes-wanted (at u) (magnitude l u) e
 
     taken-floor : at u .floor ≤ magnitude l u
-    taken-floor = leb-true (at u .floor) (magnitude l u) (both .1)
+    unfolding lowestMask
+    taken-floor = takes-floor (at u) (magnitude l u) e
 
     taken : at (suc u) ≡ record { floor = magnitude l u + d; wanted = at u .wanted - 1 }
     unfolding choiceAt lookedAt lowestMask

@@ -63,8 +63,14 @@ module _ (r : Record) (top : topIndex r < 6) where
 
 -- ---- an interval whose mask is empty
 
+pub within-le : (a b n : ℕ) → within a b n ≡ true → (a ≤ n) × (n ≤ b)
+within-le a b n e = let p = and-eq-true-iff (leb a n) (leb n b) .0 e in (leb-true a n (p .0), leb-true n b (p .1))
+
+pub le-within : (a b n : ℕ) → a ≤ n → n ≤ b → within a b n ≡ true
+le-within a b n h k = and-eq-true-iff (leb a n) (leb n b) .1 (le-leb a n h, le-leb n b k)
+
 pub rated-le : (r : Record) → within 1 28 (r .drn) ≡ true → r .drn ≤ 28
-rated-le r e = leb-true (r .drn) 28 (and-eq-true-iff (leb 1 (r .drn)) (leb (r .drn) 28) .0 e .1)
+rated-le r e = within-le 1 28 (r .drn) e .1
 
 module _ (r : Record) (i : ℕ) (h : i < 6) (e : intervalEmpty r i ≡ true) where
   both : (within 1 28 (r .drn) ≡ true) × (eqb (size r i) 0 ≡ true)

@@ -1,7 +1,7 @@
 -- Bits of numbers as code tests and sets them, and a number that grows by a bit at the top. Assumes nothing.
 use mathlib.Core.Path.{_≡_, refl, sym, ap, ap₂, _∙_}
 use Prim.Native.Nat.{ℕ, zero, suc, _+_, _*_, _/_, _%_, _^_, _≤_, _<_}
-use mathlib.Core.Bool.{Bool, true, false, not}
+use mathlib.Core.Bool.{Bool, true, false, not, true≢false}
 use mathlib.Core.List.{List, [], _∷_, _++_}
 use native.Mathlib.Nat.{not-suc-le-zero, div-one, zero-div, pow-suc, pow-succ', one-mul, mul-comm, mul-assoc}
 use native.Mathlib.Numerals.{one-add}
@@ -32,6 +32,14 @@ odd-test n = go (n % 2) (omega arith)
 pub positive-test : (n : ℕ) → not (eqb n 0) ≡ positive n
 positive-test zero = refl
 positive-test (suc n) = ap not (ne-eqb (suc n) 0 (omega arith))
+
+pub positive-pos : (n : ℕ) → positive n ≡ true → 0 < n
+positive-pos zero e = absurd (true≢false (sym e))
+positive-pos (suc n) e = omega arith
+
+pub pos-positive : (n : ℕ) → 0 < n → positive n ≡ true
+pos-positive zero h = absurd (not-suc-le-zero h)
+pos-positive (suc n) h = refl
 
 pub low-test : (n : ℕ) → eqb (bitAnd n 1) 1 ≡ odd n
 low-test n = ap (λ (x : ℕ). eqb x 1) (and-mask n 1) ∙ odd-test n

@@ -174,6 +174,7 @@ pub record PlanCall : Type 0 where
 abbrev pub planCall : ℕ → Law → ℕ → ℕ → PlanCall
 planCall k l d ceiling = record { k = k; law = l; spacing = d; ceiling = ceiling }
 
+-- 'Turned away'
 unfoldable pub planRefusal : PlanCall → Answer
 planRefusal c = first (planTests (c .k) (c .law) (c .spacing) (c .ceiling))
 
@@ -184,6 +185,7 @@ planPoints c = cond (accepted (planRefusal c)) (pointsFor (c .k)) 0
 unfoldable pub planMask : PlanCall → ℕ → Bool
 planMask c u = accepted (planRefusal c) && lowestMask (c .law) (c .spacing) (pointsFor (c .k)) u
 
+-- 'its sum'
 unfoldable pub planSum : PlanCall → ℕ
 planSum c = sumOf (c .law) (planMask c)
 

@@ -42,6 +42,7 @@ pub record Suits (l : Law) (d M : ℕ) (m : ℕ → Bool) : Type 0 where
   pub neighbours : apart d (linearValues l m 128) ≡ true
   pub smallest : clearOfZero d (linearValues l m 128) ≡ true
 
+-- 'its sum'
 abbrev pub sumOf : Law → (ℕ → Bool) → ℕ
 sumOf l m = sumOfSquares (linearValues l m 128)
 
@@ -71,5 +72,6 @@ module _ (l : Law) (d M : ℕ) where
   choiceAt zero = record { floor = (d + 1) / 2; wanted = M }
   choiceAt (suc u) = lookedAt d (choiceAt u) (magnitude l u)
 
+  -- whether Ucode u is taken
   unfoldable pub lowestMask : ℕ → Bool
   lowestMask u = takes (choiceAt u) (magnitude l u)

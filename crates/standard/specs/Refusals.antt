@@ -179,7 +179,7 @@ bufferTests readShort writeShort = test 16 readShort ∷ test 17 writeShort ∷ 
 unfoldable pub frameTests : Record → LineState → ℕ → Bool → Bool → List Test
 frameTests r st n readShort writeShort = (recordTests r ++ lineTests r st n) ++ bufferTests readShort writeShort
 
--- 26, 27 and 28
+-- 'Turned away: 26 ..; 27 ..; 28 ..'
 unfoldable pub planTests : ℕ → Law → ℕ → ℕ → List Test
 planTests k l d ceiling =
     test 26 (rateOrSpacingOutside k d) ∷ test 27 (noMask k l d) ∷ test 28 (sumExceedsCeiling k l d ceiling) ∷ []

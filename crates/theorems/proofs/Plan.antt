@@ -1,12 +1,12 @@
 -- What the planner's answers come to. Assumes nothing.
 use mathlib.Core.Path.{_≡_, refl, sym, ap, subst, _∙_}
 use Prim.Native.Nat.{ℕ, _+_, _*_, _-_, _/_, _%_, _^_, _≤_, _<_}
-use mathlib.Core.Bool.{Bool, true, false, cond, _&&_, and-eq-true-iff, and-false, true≢false}
+use mathlib.Core.Bool.{Bool, true, false, cond, and-false, true≢false}
 use mathlib.Core.List.{_∷_}
 use native.Mathlib.Decide.{decLt}
 use native.Mathlib.Nat.{zero-add}
 use native.Mathlib.Omega.{arith}
-use borrow.Author.Tests.{leb-true, le-leb, ltb-true, ltb-false, lt-ltb, le-ltb, ne-eqb}
+use borrow.Author.Tests.{leb-true, ltb-true, ltb-false, lt-ltb, le-ltb, ne-eqb}
 use lib.Dec.{leb, eqb, lit<}
 use lib.ListN.{replicate, getD-replicate}
 use lib.Pow.{pow-pos}
@@ -28,13 +28,11 @@ use Rattle.standard.proofs.First.{None, first-none, none-append, none-listFrom}
 use Rattle.standard.proofs.Bits.{field-bit}
 use Rattle.standard.proofs.Constellation.{sizeOf-ext, sizeOf-full}
 use Rattle.standard.proofs.Modulus.{product-same}
+use Rattle.standard.proofs.Refusals.{le-within}
 use Rattle.standard.proofs.Plan.{valuesFrom, in-mask}
 use Rattle.standard.proofs.Plan.{inside-le, points-enough, points-least, size-wanted}
 use Rattle.standard.proofs.Plan.{mask-neighbours, mask-smallest, mask-points, mask-least, mask-only, accepted-mask}
 use Rattle.theorems.specs.Plan.{Inside, Fits, IsLeast, PlanTold}
-
-is-within : (a b n : ℕ) → a ≤ n → n ≤ b → leb a n && leb n b ≡ true
-is-within a b n h k = and-eq-true-iff (leb a n) (leb n b) .1 (le-leb a n h, le-leb n b k)
 
 module _ (c : PlanCall) where
   abbrev M : ℕ
@@ -51,7 +49,7 @@ module _ (c : PlanCall) where
   inside-test : Inside c → rateOrSpacingOutside (c .k) (c .spacing) ≡ false
   unfolding rateOrSpacingOutside
   inside-test i =
-      rw (is-within 15 42 (c .k) (i .rate .0) (i .rate .1), is-within 1 65535 (c .spacing) (i .spacing .0) (i .spacing .1))
+      rw (le-within 15 42 (c .k) (i .rate .0) (i .rate .1), le-within 1 65535 (c .spacing) (i .spacing .0) (i .spacing .1))
 
   test-inside : rateOrSpacingOutside (c .k) (c .spacing) ≡ false → Inside c
   test-inside e = let b = inside-le (c .k) (c .spacing) e in record { rate = b .0; spacing = b .1 }

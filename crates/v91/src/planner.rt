@@ -153,8 +153,30 @@ fn make_plan(
     }
 }
 
-// Plans with numbers that may be outside their range.
-fn plan_inside(
+// Plans with a spacing that may be outside its range.
+fn plan_spacing(
+    e: Ends,
+    k: u32,
+    law: Law,
+    spacing: u64,
+    ceiling: u64,
+    form: usize,
+    word: &[u8],
+) -> bool
+    requires { ⌜ (15 ≤ k) × (k ≤ 42) ⌝ }
+{
+    match spacing {
+        1..=65535 => make_plan(e, k, law, spacing as u32, ceiling, form, word),
+        _ => fail(
+            e,
+            b"the spacing is #; it is 1 to 65535 (refusal 26)",
+            spacing,
+        ),
+    }
+}
+
+// The same with a K that may be outside its range.
+fn plan_rate(
     e: Ends,
     k: u64,
     law: Law,
@@ -163,27 +185,10 @@ fn plan_inside(
     form: usize,
     word: &[u8],
 ) -> bool {
-    if k < 15 {
-        return fail(e, b"K is #; it is 15 to 42 (refusal 26)", k);
+    match k {
+        15..=42 => plan_spacing(e, k as u32, law, spacing, ceiling, form, word),
+        _ => fail(e, b"K is #; it is 15 to 42 (refusal 26)", k),
     }
-    if 42 < k {
-        return fail(e, b"K is #; it is 15 to 42 (refusal 26)", k);
-    }
-    if spacing < 1 {
-        return fail(
-            e,
-            b"the spacing is #; it is 1 to 65535 (refusal 26)",
-            spacing,
-        );
-    }
-    if 65535 < spacing {
-        return fail(
-            e,
-            b"the spacing is #; it is 1 to 65535 (refusal 26)",
-            spacing,
-        );
-    }
-    make_plan(e, k as u32, law, spacing as u32, ceiling, form, word)
 }
 
 // Plans as the words ask: K, LAW, SPACING and CEILING, and then the form.
@@ -208,7 +213,7 @@ pub(crate) fn plan(e: Ends, words: &[u8]) -> bool {
     if form == 0 {
         return false;
     }
-    plan_inside(
+    plan_rate(
         e,
         k,
         law,

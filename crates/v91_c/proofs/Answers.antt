@@ -3,13 +3,13 @@ use mathlib.Core.Path.{_≡_, refl, sym, ap, _∙_}
 use mathlib.Core.Logic.{_⊎_, inl, inr}
 use Prim.Native.Nat.{ℕ, _^_, _≤_, _<_}
 use mathlib.Core.Bool.{Bool, true, false, true≢false, not, _&&_, _||_, and-eq-true-iff}
-use mathlib.Core.List.{List}
+use mathlib.Core.List.{List, [], _∷_, _++_}
 use native.Mathlib.Nat.{eq-zero-or-pos}
 use native.Mathlib.Omega.{arith}
 use borrow.Author.Tests.{lt-ltb, le-ltb, ltb-false, eqb-true, eq-eqb, not-true}
-use lib.Dec.{eqb, ltb, lit<}
+use lib.Dec.{T, eqb, ltb, lit<}
 use lib.ListN.{length}
-use Rattle.standard.specs.First.{Answer, bare, Test, first}
+use Rattle.standard.specs.First.{Answer, bare, Test, test, first}
 use Rattle.standard.specs.Record.{topIndex}
 use Rattle.standard.specs.Cp.{cpByteCount}
 use Rattle.standard.specs.Refusals.{outcomeAnswer, shorter, recordTests, readTests, writeTests, planTests}
@@ -22,7 +22,7 @@ use Rattle.standard.specs.declared.Outcome.{Outcome}
 use Rattle.standard.specs.declared.Outcome.the-variants.{Done, Refused}
 use Rattle.standard.specs.declared.Record.{Record}
 use Rattle.standard.proofs.Lists.{or-none}
-use Rattle.standard.proofs.First.{None, none-first, first-append, first-left}
+use Rattle.standard.proofs.First.{numbered, none-first, first-append, first-left}
 use Rattle.standard.proofs.Stages.{refused-not}
 use Rattle.standard.proofs.Dil.{length-defaultDil}
 use Rattle.standard.proofs.Refusals.{top-lt, read-numbered, write-numbered, plan-numbered}
@@ -91,29 +91,36 @@ module _ (rec cp : List ℕ) where
     unfolding v91WriteCp answered first
     write-done z n en = rw (le-ltb _ _ long, el, en, ← er, ← eo, code-done o k ek z)
 
+-- ---- an entry's tests with 17 behind them, for a buffer to be written
+
+module _ (ts : List Test) (t : T (numbered ts)) (short : Bool) (o : Outcome) (eo : outcomeAnswer o ≡ first ts) (k : ℕ)
+    (ek : k ≡ coded (outcomeAnswer o)) where
+  abbrev then17 : Answer
+  then17 = first (ts ++ (test 17 short ∷ []))
+
+  then-refused : (k ≡ 0 → ⊥) → then17 ≡ outcomeAnswer o
+  then-refused p = first-left ts _ (refused-first ts (ap accepted (sym eo) ∙ code-refused o k ek p)) ∙ sym eo
+
+  then-own : k ≡ 0 → then17 ≡ first (test 17 short ∷ [])
+  then-own z = first-append ts _ (none-first ts t (eqb-true _ 0 (ap accepted (sym eo) ∙ code-done o k ek z)))
+
 -- ---- v91_read_cp
 
 module _ (cp : List ℕ) (n : ℕ) (rec : List ℕ) (o : Outcome) (eo : outcomeAnswer o ≡ readRefusal (readCall cp n)) (k : ℕ)
     (ek : k ≡ coded (outcomeAnswer o)) where
   pub read-refused : (k ≡ 0 → ⊥) → v91ReadCp cp n rec ≡ record { answer = k; rec = rec }
   unfolding v91ReadCp answered readRefusal
-  read-refused p =
-      let no = code-refused o k ek p in
-      rw (first-left (readTests cp n) _ (refused-first (readTests cp n) (ap accepted (sym eo) ∙ no)), ← eo, no, ek)
+  read-refused p = rw (then-refused (readTests cp n) (read-numbered cp n) _ o eo k ek p, code-refused o k ek p, ek)
 
   module _ (z : k ≡ 0) where
-    none : None (readTests cp n)
-    unfolding readRefusal
-    none = none-first (readTests cp n) (read-numbered cp n) (eqb-true _ 0 (ap accepted (sym eo) ∙ code-done o k ek z))
-
     pub read-short : length rec < recordLength → v91ReadCp cp n rec ≡ record { answer = 17; rec = rec }
-    unfolding v91ReadCp answered first
-    read-short h = rw (first-append (readTests cp n) _ none, lt-ltb _ _ h)
+    unfolding v91ReadCp answered readRefusal first
+    read-short h = rw (then-own (readTests cp n) (read-numbered cp n) _ o eo k ek z, lt-ltb _ _ h)
 
     pub read-done : recordLength ≤ length rec → (r : Record) → r ≡ readRecord (readCall cp n) → (left : List ℕ)
         → left ≡ over (recordBytes r) rec → v91ReadCp cp n rec ≡ record { answer = 0; rec = left }
-    unfolding v91ReadCp answered first
-    read-done long r er left el = rw (first-append (readTests cp n) _ none, le-ltb _ _ long, el, er)
+    unfolding v91ReadCp answered readRefusal first
+    read-done long r er left el = rw (then-own (readTests cp n) (read-numbered cp n) _ o eo k ek z, le-ltb _ _ long, el, er)
 
 -- ---- calls of frames
 
@@ -222,22 +229,16 @@ module _ (k : ℕ) (a : Bool) (d ceiling : ℕ) (bytes : List ℕ) {l : Law} (el
     (eo : outcomeAnswer o ≡ planRefusal (planCall k l d ceiling)) {n : ℕ} (en : n ≡ coded (outcomeAnswer o)) where
   pub plan-refused : (n ≡ 0 → ⊥) → v91Plan k a d ceiling bytes ≡ record { answer = n; bytes = bytes }
   unfolding v91Plan answered planRefusal
-  plan-refused p =
-      let no = code-refused o n en p in
-      rw (← el, first-left (planTests k l d ceiling) _ (refused-first (planTests k l d ceiling) (ap accepted (sym eo) ∙ no)), ← eo, no, en)
+  plan-refused p = rw (← el, then-refused (planTests k l d ceiling) (plan-numbered k l d ceiling) _ o eo n en p, code-refused o n en p, en)
 
   module _ (z : n ≡ 0) where
-    no-fault : None (planTests k l d ceiling)
-    unfolding planRefusal
-    no-fault =
-        none-first (planTests k l d ceiling) (plan-numbered k l d ceiling) (eqb-true _ 0 (ap accepted (sym eo) ∙ code-done o n en z))
-
     pub plan-short : length bytes < planLength → v91Plan k a d ceiling bytes ≡ record { answer = 17; bytes = bytes }
-    unfolding v91Plan answered first
-    plan-short h = rw (← el, first-append (planTests k l d ceiling) _ no-fault, lt-ltb _ _ h)
+    unfolding v91Plan answered planRefusal first
+    plan-short h = rw (← el, then-own (planTests k l d ceiling) (plan-numbered k l d ceiling) _ o eo n en z, lt-ltb _ _ h)
 
     pub plan-done : planLength ≤ length bytes → (halves : List ℕ) → halves ≡ planHalves (planCall k l d ceiling) → (sum : ℕ)
         → sum ≡ planSum (planCall k l d ceiling) → (left : List ℕ) → left ≡ over (planBytes halves sum) bytes
         → v91Plan k a d ceiling bytes ≡ record { answer = 0; bytes = left }
-    unfolding v91Plan answered first
-    plan-done long halves eh sum es left e = rw (← el, first-append (planTests k l d ceiling) _ no-fault, le-ltb _ _ long, e, eh, es)
+    unfolding v91Plan answered planRefusal first
+    plan-done long halves eh sum es left e =
+        rw (← el, then-own (planTests k l d ceiling) (plan-numbered k l d ceiling) _ o eo n en z, le-ltb _ _ long, e, eh, es)

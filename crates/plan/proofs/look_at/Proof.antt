@@ -8,8 +8,9 @@ use borrow.Author.Tests.{not-true, not-false}
 use lib.Pow.{pow-mono}
 use Rattle.standard.specs.Plan.{takes}
 use Rattle.standard.proofs.Words.{one-shifted}
+use Rattle.standard.proofs.Plan.{takes-wanted}
 use Rattle.plan.specs.Choosing.{choiceOf}
-use Rattle.plan.proofs.Choosing.{square-le, taken-wanted, not-taken, taken}
+use Rattle.plan.proofs.Choosing.{square-le, not-taken, taken}
 use Rattle.plan.proofs.look_at.Statement.{statement}
 use Rattle.plan.proofs.look_at.Tie as tie
 
@@ -38,7 +39,7 @@ add-t11 : tie.Need-add-t11
 add-t11 c = search needs
 
 sub-t12 : tie.Need-sub-t12
-sub-t12 c = let a = c .before .before .before .before .args in taken-wanted (a .c) (a .value) (took (c .before .before))
+sub-t12 c = let a = c .before .before .before .before .args in takes-wanted (choiceOf (a .c)) (a .value) (took (c .before .before))
 
 mul-t13 : tie.Need-mul-t13
 mul-t13 c = omega (arith, square-le (c .before .before .before .before .args .value) (omega arith))
