@@ -3,9 +3,11 @@
     difference.py LIBRARY PREFIX [--seed S] [--calls N] [--show]
 
 LIBRARY is a shared object with the functions of v91.h under PREFIX, `v91_` or `plain_`. Compared are
-the answer and every byte of every buffer afterwards, with canary bytes before and behind it. The test
+the answer and every byte of every buffer afterwards, with canary bytes before and behind it. In some
+runs of calls the codec's own bytes are held against what the count of doubtful bits promises. The test
 stops at the first difference with a line that shows the call; --show prints every call before it is
-made. The exit status is 0 if all was the same and every refusal, interval and mark came up, else 1.
+made. The exit status is 0 if all was the same and every refusal, interval, mark and count that a state
+can hand in came up, else 1.
 """
 
 import argparse
@@ -31,7 +33,8 @@ import plan
 import record
 from samples import Draw, a_record, a_sparse_record, a_state, faulty_record
 
-RECORD_BYTES, STATE_BYTES, PLAN_BYTES = 105, 5, 24
+RECORD_BYTES, STATE_BYTES, PLAN_BYTES = 105, 6, 24
+DOUBTFUL = 5  # the byte of a state that counts doubtful bits
 DIL_OCTETS = dil.length(dil.TABLE_5)
 
 # The parameters of each entry; all but a_law and the numbers are buffers: a pointer and a length.
@@ -51,8 +54,8 @@ NUMBERS = {"a_law": ctypes.c_bool, "frames": ctypes.c_size_t, "bit_count": ctype
 REFUSALS = {
     "read_cp": {*range(1, 12), 17, 25},
     "write_cp": {4, *range(9, 13), 16, 17, 25},
-    "send": {4, *range(9, 18), 25},
-    "receive": {4, *range(9, 18), 25},
+    "send": {4, *range(9, 19), 25},
+    "receive": {4, *range(9, 19), 25},
     "linear": {17},
     "send_dil": {17},
     "plan": {17, 26, 27, 28},
@@ -236,6 +239,10 @@ class Difference(Exception):
     """The codec and the reference differ."""
 
 
+def bit_at(octets, n):
+    return octets[n // 8] >> n % 8 & 1
+
+
 def shown(value):
     return value.hex() if isinstance(value, bytes) else str(value)
 
@@ -249,13 +256,16 @@ class Test:
         self.counts = {entry: Counter() for entry in ENTRIES}
         self.intervals = {entry: Counter() for entry in FAULTY}
         self.marks = Counter()
+        self.counted = {"send": set(), "receive": set()}
+        self.promised = Counter()
+        self.next_count = 0
         self.held = {entry: set() for entry in ENTRIES}
         self.sets = [(entry, {number}) for entry in FAULTY for number in FAULTY[entry][1]]
         self.sets += [(entry, set(pair)) for entry in FAULTY for pair in PAIRS[entry]]
         self.next_set = 0
 
     def call(self, entry, *values):
-        """One call, compared; (answer, {buffer: wanted afterwards})."""
+        """One call, compared; (answer, {buffer: what the codec left there})."""
         if self.made == self.calls:
             raise Enough
         self.made += 1
@@ -279,7 +289,9 @@ class Test:
             self.intervals[entry][answer >> 24] += 1
         if entry == "receive" and answer == 0:
             self.marks.update(after["marks"][:values[2]])
-        return answer, after
+        if entry in self.counted:
+            self.counted[entry].update(values[-1][DOUBTFUL:DOUBTFUL + 1])
+        return found, {name: now[Memory.EDGE:-Memory.EDGE] for name, now in there.items()}
 
     def line(self, entry, values, offset, null):
         """The call in one line."""
@@ -394,6 +406,84 @@ class Test:
             sequence += draw.octets(draw.pick((0, 0, 1, 30)))
             self.call("read_cp", sequence, cases_cp.length_of(rec), self.cut(self.some(RECORD_BYTES)))
 
+    def each_count(self):
+        """The next of all counts that a byte can hold, for both entries, with other refusals at times."""
+        draw = self.draw
+        for _ in range(8):
+            self.next_count = (self.next_count + 1) % 256
+            rec, law, frame_count = self.any_record(), draw.below(2), draw.below(4)
+            if draw.below(4) == 0:
+                rec, frame_count = faulty_record(draw, {draw.pick((4, 9, 10, 25, 11, 12, 13))}), 1
+            state = a_state(draw)._replace(doubtful=self.next_count)
+            if draw.below(8) == 0:
+                state = state._replace(history=cases_frames.a_history_too_large(draw))
+            self.send(rec, law, frame_count, state)
+            self.receive(rec, law, frame_count, draw.octets(6 * frame_count), state)
+
+    def expect(self, holds, what):
+        """Stop unless what is promised holds."""
+        if not holds:
+            raise Difference(f"call {self.made}: not as promised: {what}")
+
+    def sent_in_calls(self, rec, law, state):
+        """(Data bits, octets) of some calls of the sender, which leaves the count as it is."""
+        draw, message, line, form = self.draw, [], b"", frames.pack_state(state)
+        for _ in range(draw.between(1, 3)):
+            count = draw.between(1, 6)
+            data = draw.octets(frames.data_bytes(rec, count))
+            answer, left = self.call("send", record.pack(rec), law, count, data, self.some(6 * count), form)
+            self.expect(answer == 0 and left["state"][DOUBTFUL] == state.doubtful, "the sender's count")
+            message += [bit_at(data, n) for n in range(count * frames.frame_bits(rec))]
+            line, form = line + left["octets"], left["state"]
+        return message, line
+
+    def marked_instead(self, rec, law, frame):
+        """Other octets than a frame's, drawn until the codec marks them."""
+        draw, form = self.draw, frames.pack_state(a_state(self.draw))
+        while True:
+            octets = bytearray(draw.pick((frame, draw.octets(6))))
+            octets[draw.below(6)] = draw.bits(8)
+            bits = self.some(frames.data_bytes(rec, 1))
+            left = self.call("receive", record.pack(rec), law, 1, bytes(octets), bits, b"\0", form)[1]
+            if left["marks"] != b"\0":
+                return bytes(octets)
+
+    def check_frames(self, width, left, message, altered, count):
+        """Hold what a call of the receiver left against what was sent; the count after its frames."""
+        for n, mark in enumerate(left["marks"]):
+            self.expect((mark > 0) == altered[n], "a frame is marked that is not altered, or the reverse")
+            places = range(0 if mark else width)
+            wrong = [p for p in places if bit_at(left["bits"], n * width + p) != message[n * width + p]]
+            self.expect(not wrong or wrong[-1] < count, f"bits {wrong} are wrong after the count {count}")
+            self.promised["bits wrong"] += len(wrong)
+            self.promised["the last doubtful one wrong"] += count - 1 in wrong
+            count = 24 if mark else max(count - width, 0)
+        self.expect(left["state"][DOUBTFUL] == count, f"the receiver's count is not {count}")
+        return count
+
+    def distrusted(self):
+        """What the count of doubtful bits promises, by the codec's own octets, bits, marks and states.
+
+        Each frame that is altered is marked. The receiver begins cold, in any history and sign, or in the
+        sender's with any count up to 24. A good frame's bits past as many as the count before it are as sent.
+        """
+        draw, law, drn = self.draw, self.draw.below(2), self.draw.between(1, 28)
+        rec, start, cold = a_record(draw, drn), a_state(draw), draw.below(2)
+        message, sent = self.sent_in_calls(rec, law, start)
+        line = [sent[n:n + 6] for n in range(0, len(sent), 6)]
+        altered = [drn < 28 and draw.below(3) == 0 for _ in line]  # at drn 28 every frame is good
+        line = [self.marked_instead(rec, law, frame) if hurt else frame for frame, hurt in zip(line, altered)]
+        width, count = frames.frame_bits(rec), 24 if cold else draw.between(0, 24)
+        form, first = frames.pack_state((a_state(draw) if cold else start)._replace(doubtful=count)), 0
+        while first < len(line):
+            part = line[first:first + draw.pick((0, 1, 1, 2, 3, 7))]
+            bits, marks = self.some(frames.data_bytes(rec, len(part))), self.some(len(part))
+            answer, left = self.call("receive", record.pack(rec), law, len(part), b"".join(part), bits, marks, form)
+            self.expect(answer == 0, "the receiver declines")
+            count = self.check_frames(width, left, message[first * width:], altered[first:], count)
+            first, form = first + len(part), left["state"]
+        self.promised["runs"] += 1
+
     def longest(self):
         """The most frames that a call can have, and one more, in buffers of the exact lengths."""
         draw, law = self.draw, self.draw.below(2)
@@ -438,7 +528,7 @@ class Test:
         draw = self.draw
         numbers = {draw.pick((4, 9, 10, 25, 11, 12, 13))}
         rec = faulty_record(draw, numbers) if draw.below(2) else self.any_record()
-        short = [record.pack(rec)[:draw.pick((0, 1, 50, 104))], bytes(draw.pick((0, 1, 4)))]
+        short = [record.pack(rec)[:draw.pick((0, 1, 50, 104))], bytes(draw.pick((0, 1, 4, 5)))]
         whole = [record.pack(rec), frames.pack_state(a_state(draw))]
         for forms_lent in ((short[0], whole[1]), (whole[0], short[1]), short):
             few = [self.some(draw.below(9)) for _ in range(3)]
@@ -469,7 +559,9 @@ class Test:
                   cases_cp.counts, cases_cp.fields_at_fault, cases_cp.short_buffers,
                   cases_cp.stray_masks, cases_cp.record_fields_at_fault,
                   cases_cp.sparse_readings, cases_cp.sparse_writings,
-                  cases_frames.sparse_calls, cases_frames.sparse_faults)
+                  cases_frames.sparse_calls, cases_frames.sparse_faults,
+                  cases_frames.counted_frames, cases_frames.each_mark_counted,
+                  cases_frames.counts_alone, cases_frames.count_faults)
         for case in self.draw.pick(groups)(self.draw):
             if self.draw.below(4) == 0:
                 self.case(case)
@@ -543,6 +635,7 @@ class Test:
     def run(self):
         """All calls."""
         often = [self.a_run] * 40 + [self.marked] * 6 + [self.refused] * 6 + [self.flipped] * 6
+        often += [self.each_count] * 4 + [self.distrusted] * 4
         rarely = [self.bad_buffers, self.edges, self.sparse] * 2 + [self.listed]
         rarely += [self.samples] * 6 + [self.learning] + [self.planning] * 3
         try:
@@ -569,6 +662,12 @@ class Test:
             lacking += [f"{entry} 25 with {i}" for i in range(6) if not counts[i]]
         print("marks:", ", ".join(f"{mark}: {self.marks[mark]}" for mark in range(8)))
         lacking += [f"mark {mark}" for mark in range(8) if not self.marks[mark]]
+        for entry, counts in self.counted.items():
+            print(f"{entry}, counts of doubtful bits handed in: {len(counts)} of 256")
+            lacking += [f"{entry} with the count {count}" for count in sorted({*range(256)} - counts)]
+        met = ("runs", "bits wrong", "the last doubtful one wrong")
+        print("doubtful bits as promised:", ", ".join(f"{what}: {self.promised[what]}" for what in met))
+        lacking += [f"doubtful bits, {what}" for what in met if not self.promised[what]]
         if lacking and self.made >= ENOUGH:
             print("never came up:", ", ".join(lacking))
             return False

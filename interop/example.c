@@ -1,4 +1,4 @@
-/* Reads a CP, sends 63 one bits in three frames, receives them, and prints what came of it.
+/* Reads a CP, sends 63 one bits in three frames, receives them, and prints what came of it; another receiver begins cold.
    Exits with 1 if anything is not as expected. */
 #include "v91.h"
 
@@ -40,6 +40,7 @@ int main(void)
     uint8_t record[V91_RECORD_BYTES], again[V91_CP_BYTES];
     uint8_t bits[8], octets[6 * FRAMES], heard[8], marks[FRAMES];
     uint8_t sender[V91_STATE_BYTES] = { 0 }, receiver[V91_STATE_BYTES] = { 0 };
+    uint8_t cold[V91_STATE_BYTES] = { [V91_STATE_DOUBTFUL] = V91_COLD };
     int32_t samples[6 * FRAMES];
 
     expect(v91_read_cp(cp, sizeof cp, CP_BITS, record, sizeof record) == 0, "the CP is refused");
@@ -79,5 +80,14 @@ int main(void)
     expect(marks[0] == 0 && marks[1] == 0 && marks[2] == 0, "a frame is marked");
     expect(memcmp(sender, receiver, sizeof sender) == 0, "the two ends are in different states");
     expect(samples[0] == 16 && samples[1] == -8, "other samples than expected");
+
+    /* From the second frame on: 21 of the 24 doubtful bits are in it, 3 are to come. */
+    expect(v91_receive(record, sizeof record, false, 1, octets + 6, 6, heard, sizeof heard,
+                       marks, sizeof marks, cold, sizeof cold) == 0, "the cold receiver refuses");
+    printf("cold   %d coming bits to distrust\n", cold[V91_STATE_DOUBTFUL]);
+    expect(cold[V91_STATE_DOUBTFUL] == 3, "another count of doubtful bits than expected");
+    cold[V91_STATE_DOUBTFUL] = V91_COLD + 1;
+    expect(v91_receive(record, sizeof record, false, 0, NULL, 0, NULL, 0, NULL, 0, cold, sizeof cold) == V91_DOUBTFUL_TOO_LARGE,
+           "a count above 24 is taken");
     return 0;
 }

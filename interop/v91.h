@@ -6,8 +6,13 @@
  * Record, 105 bytes: granted (flag), drn, acknowledge (flag), six interval indices, then twelve mask
  * halves of 8 bytes, low byte first. Half 2 m has Ucodes 0 to 63 of mask m, half 2 m + 1 has 64 to 127.
  *
- * Line state, 5 bytes: the history in 4 bytes, low byte first, and the last sign (flag). A fresh state
- * is five zeros. Each call of an end takes the state that the call before it left.
+ * Line state, 6 bytes: the history in 4 bytes, low byte first, the last sign (flag), and a count of doubtful
+ * bits, 0 to 24. A fresh state is six zeros; a receiver told that it begins cold has V91_COLD, 24, in byte 5.
+ * Each call of an end takes the state that the call before it left. The count is how many of the bits to come
+ * are to be distrusted: a marked frame sets it to 24, a good frame lowers it by its drn + 20 bits, not below 0,
+ * and the sender leaves it as it is. If every frame that the line alters is marked, and the receiver begins cold
+ * or in the sender's state (history and last sign), then the bits of a good frame past as many as the count
+ * before it are the bits sent. The count changes no octet, bit or mark.
  *
  * A flag counts as 1 where its byte is not 0, and is written as 0 or 1.
  *
@@ -40,7 +45,7 @@ extern "C" {
 #endif
 
 /* Raised where a function is added, or a function, a layout or an answer changes. */
-#define V91_VERSION 3
+#define V91_VERSION 4
 
 /* ---- refusals */
 
@@ -60,6 +65,7 @@ enum v91_refusal {
     V91_MASK_ABOVE_INDICES = 12,     /* a mask above the largest index is not empty */
     V91_FRAMES_AT_CLEARDOWN = 13,    /* there are frames and drn is 0 */
     V91_HISTORY_TOO_LARGE = 14,      /* the history is 2^23 or more */
+    V91_DOUBTFUL_TOO_LARGE = 18,     /* the count of doubtful bits exceeds 24 */
     V91_TOO_MANY_FRAMES = 15,        /* there are more than 1,024 frames */
     V91_INPUT_TOO_SHORT = 16,        /* a buffer to be read is shorter than needed */
     V91_RATE_OR_SPACING_OUTSIDE = 26,/* K is outside 15 to 42, or the spacing outside 1 to 65,535 */
@@ -68,7 +74,7 @@ enum v91_refusal {
     V91_OUTPUT_TOO_SHORT = 17        /* a buffer to be written is shorter than needed */
 };
 
-/* Whether an answer is a refusal: it is 1 to 17, 26 to 28, or 25 + (interval << 24). Else it is 0, the bit count
+/* Whether an answer is a refusal: it is 1 to 18, 26 to 28, or 25 + (interval << 24). Else it is 0, the bit count
    of v91_write_cp, which is 294 to 972, or the 1,500 octets of v91_send_dil. */
 #define V91_REFUSED(answer) ((answer) != 0 && ((answer) < 294 || (answer) >= 1u << 24))
 
@@ -87,9 +93,11 @@ enum v91_refusal {
 
 /* ---- the line state */
 
-#define V91_STATE_BYTES 5
+#define V91_STATE_BYTES 6
 #define V91_STATE_HISTORY 0                                  /* 4 bytes */
 #define V91_STATE_SIGN 4
+#define V91_STATE_DOUBTFUL 5                                 /* 0 to 24 */
+#define V91_COLD 24                                          /* its value where a receiver begins cold */
 
 /* ---- a plan: one mask, and the sum of the squared linear values of its points */
 
@@ -122,16 +130,17 @@ uint32_t v91_read_cp(const uint8_t *cp, size_t cp_len, size_t bit_count,
 uint32_t v91_write_cp(const uint8_t *record, size_t record_len, uint8_t *cp, size_t cp_len);
 
 /* Sends frames x (drn + 20) data bits as 6 x frames octets. Answers 0 or a refusal: 16 for a short record or
-   state, 4, 9, 10, 25, 11 to 17. After 0 the state is the one left; a call of no frames writes no byte. */
+   state, 4, 9, 10, 25, 11 to 14, 18, 15, 16, 17. After 0 the state is the one left; a call of no frames writes
+   no byte. */
 uint32_t v91_send(const uint8_t *record, size_t record_len, bool a_law, size_t frames,
                   const uint8_t *bits, size_t bits_len, uint8_t *octets, size_t octets_len,
                   uint8_t *state, size_t state_len);
 
 /* Receives 6 x frames octets as frames x (drn + 20) data bits, with zeros up to the end of the last byte,
-   and one mark for each frame. Answers 0 or a refusal: 16 for a short record or state, 4, 9, 10, 25, 11 to 17.
-   After 0 the state is the one left; a call of no frames writes no byte. Mark 0: a good frame. Mark 1 to 6:
-   the first interval whose Ucode is not in its mask. Mark 7: the number is 2^K or more. The bits of a marked
-   frame are zeros. */
+   and one mark for each frame. Answers 0 or a refusal: 16 for a short record or state, 4, 9, 10, 25, 11 to 14,
+   18, 15, 16, 17. After 0 the state is the one left; a call of no frames writes no byte. Mark 0: a good frame.
+   Mark 1 to 6: the first interval whose Ucode is not in its mask. Mark 7: the number is 2^K or more. The bits of
+   a marked frame are zeros. */
 uint32_t v91_receive(const uint8_t *record, size_t record_len, bool a_law, size_t frames,
                      const uint8_t *octets, size_t octets_len, uint8_t *bits, size_t bits_len,
                      uint8_t *marks, size_t marks_len, uint8_t *state, size_t state_len);

@@ -4,18 +4,18 @@ import math
 from itertools import combinations
 
 from forms import linear_case, outcome, receive_case, send_case
-from frames import (FRESH, HISTORIES, MOST_FRAMES, State, data_bytes, interval_masks, points,
-                    ucodes_for)
+from frames import (COLD, FRESH, HISTORIES, MOST_DOUBTFUL, MOST_FRAMES, State, data_bytes,
+                    frame_bits, interval_masks, points, ucodes_for)
 from record import EMPTY, EXAMPLE, FULL_MASK, k_of, make, sizes_of
 from refusals import in_order, of_01
-from samples import (Draw, a_mask, a_record, a_state, faulty_record, hardly_empty,
+from samples import (Draw, a_doubt, a_mask, a_record, a_state, faulty_record, hardly_empty,
                      records_with_empty_intervals, without_a_rate)
 from table1 import A, MU, octet_of
 
 SEVEN_UCODES = make(0, 2, 0, [0] * 6, [127])
 
 # In the order in which they are looked at.
-NUMBERS = (4, 9, 10, 25, *range(11, 18))
+NUMBERS = (4, 9, 10, 25, *range(11, 15), 18, 15, 16, 17)
 
 # As for CP; besides, 13 wants drn 0, 9 one above 28, 11 and 25 one of 1 to 28.
 APART = {(9, 11), (9, 25), (4, 12), (9, 13), (11, 13), (25, 13)}
@@ -86,6 +86,11 @@ def a_history_too_large(draw):
     return draw.pick((HISTORIES, HISTORIES + draw.bits(23), 2**32 - 1, draw.bits(32) | 2**31))
 
 
+def a_doubt_too_large(draw):
+    """A count of doubtful bits that exceeds 24."""
+    return draw.pick((25, 26, 128, 255, draw.between(25, 255)))
+
+
 def a_count(draw, numbers, exact):
     """The frames of a call at fault; `exact` asks for the least number that is too many."""
     if 15 in numbers:
@@ -111,6 +116,8 @@ def faulty_parts(draw, numbers, state):
     state = a_state(draw) if state is None else state
     if 14 in numbers:
         state = state._replace(history=a_history_too_large(draw))
+    if 18 in numbers:
+        state = state._replace(doubtful=a_doubt_too_large(draw))
     lacking = 15 in numbers and not exact
     count = a_count(draw, numbers, exact)
     return record, state, count, lacking or 16 in numbers, lacking or 17 in numbers
@@ -174,7 +181,7 @@ def a_cut(draw, total):
 
 def a_refused_number(draw, numbers):
     """One of some refusals that can be met in any state, with few bytes."""
-    return draw.pick([number for number in numbers if number not in (14, 15)])
+    return draw.pick([number for number in numbers if number not in (14, 15, 18)])
 
 
 def sent(draw, record, law, state, cut):
@@ -268,10 +275,10 @@ def example_calls():
         yield receive_case(EXAMPLE, MU, 1, FRESH, frame, 3, 1)
     strangers = bytes(0xFF ^ ucode for ucode in (0, 0, 6, 0, 6, 0))
     yield receive_case(EXAMPLE, MU, 1, FRESH, strangers, 3, 1)
-    for state in (State(0, 0), State(0, 1), State(1, 0)):
+    for state in (FRESH, State(0, 1, 0), State(1, 0, 0)):
         yield receive_case(EXAMPLE, MU, 2, state, b"\x7a" * 12, 6, 2)
-    yield receive_case(EXAMPLE, MU, 1, State(7, 0), b"\xff" * 6, 3, 1)
-    yield receive_case(SEVEN_UCODES, MU, 1, State(1, 0), b"\x80" * 6, 3, 1)
+    yield receive_case(EXAMPLE, MU, 1, State(7, 0, 0), b"\xff" * 6, 3, 1)
+    yield receive_case(SEVEN_UCODES, MU, 1, State(1, 0, 0), b"\x80" * 6, 3, 1)
 
 
 def marked_frames(draw):
@@ -280,7 +287,7 @@ def marked_frames(draw):
         for mark in range(8):
             for history in (HISTORIES - 1, draw.pick((1, 2, 3)), draw.bits(23)):
                 record, law = a_record_with_all_marks(draw, drn), draw.below(2)
-                state = State(history, draw.below(2))
+                state = State(history, draw.below(2), a_doubt(draw))
                 yield a_receive(draw, record, law, state, a_frame(draw, record, law, mark))
     for drn in (1, 2, 5, 9, 14, 20, 24, 27):
         for mark in range(8):
@@ -309,7 +316,7 @@ def states(draw):
                     HISTORIES, HISTORIES + 1, 2**24, 2**31, 2**32 - 1):
         for count in (0, 2):
             record, law = a_record(draw, draw.between(1, 28)), draw.below(2)
-            state = State(history, draw.below(2))
+            state = State(history, draw.below(2), a_doubt(draw))
             yield a_send(draw, record, law, count, state)
             yield a_receive(draw, record, law, state, draw.octets(6 * count))
 
@@ -356,16 +363,21 @@ def sparse_calls(draw):
         yield from both_ends(draw, record, 1)
 
 
-def sparse_faults(draw):
-    """25 together with every other refusal, and in greater sets at random, for both entries."""
-    sets = [set(pair) for pair in pairs() if 25 in pair]
+def faults_with(draw, number, pairs_of_it):
+    """A refusal in these pairs and in greater sets at random, for both entries."""
+    sets = [set(pair) for pair in pairs_of_it]
     for _ in range(20):
-        numbers = {25} | {number for number in NUMBERS if draw.below(3) == 0}
+        numbers = {number} | {other for other in NUMBERS if draw.below(3) == 0}
         if possible(numbers):
             sets.append(numbers)
     for numbers in sets:
         yield faulty_send(draw, numbers)
         yield faulty_receive(draw, numbers)
+
+
+def sparse_faults(draw):
+    """25 together with every other refusal, and in greater sets at random."""
+    return faults_with(draw, 25, [pair for pair in pairs() if 25 in pair])
 
 
 # Six masks in one call (A.6)
@@ -376,11 +388,81 @@ def six_masks(draw):
     yield from both_ends(draw, record, 2)
 
 
+# Doubtful bits (A.1)
+
+def edge_counts(record):
+    """Counts of doubtful bits at their bounds and about D."""
+    width = frame_bits(record)
+    return sorted({0, 1, 23, 24} | {width - 1, width, width + 1} & set(range(MOST_DOUBTFUL + 1)))
+
+
+def counted_frames(draw):
+    """Good and marked frames from counts at the edges, at several D; at D = 48 none is marked."""
+    for drn in (1, 2, 3, 4, 14, 27, 28):
+        record, law = a_record(draw, drn), draw.below(2)
+        marks = possible_marks(record) or [0]
+        for count in edge_counts(record):
+            mixed = [draw.pick((0, 0, draw.pick(marks))) for _ in range(6)]
+            for kinds in ([0], [0, 0], [draw.pick(marks)], [draw.pick(marks), 0, 0], mixed):
+                line = b"".join(a_frame(draw, record, law, mark) for mark in kinds)
+                state = a_state(draw)._replace(doubtful=count)
+                yield a_receive(draw, record, law, state, line)
+
+
+def each_mark_counted(draw):
+    """Each mark from the counts 0, 11 and 24, with a good frame after it and without."""
+    for mark in range(1, 8):
+        record, law = a_record_with_all_marks(draw, draw.between(1, 4)), draw.below(2)
+        for count, kinds in ((0, [mark]), (11, [mark, 0]), (24, [0, mark])):
+            line = b"".join(a_frame(draw, record, law, each) for each in kinds)
+            yield a_receive(draw, record, law, a_state(draw)._replace(doubtful=count), line)
+
+
+def cold_starts(draw):
+    """Receivers told cold, from zeros and from another state, of frames of which one is marked."""
+    for drn in (1, 2, 4, 14, 28):
+        record, law = a_record(draw, drn), draw.below(2)
+        sending = a_send(draw, record, law, 5, a_state(draw))
+        line = bytearray(outcome(sending)[2])
+        if possible_marks(record):
+            line[18:24] = a_frame(draw, record, law, draw.pick(possible_marks(record)))
+        yield sending
+        for state in (COLD, a_state(draw)._replace(doubtful=COLD.doubtful)):
+            yield from read(draw, record, law, state, [1, 1, 3], bytes(line))
+
+
+def every_count_sent(draw):
+    """The sender with each count that a byte can hold: 0 to 24 stay as they are, 18 for others."""
+    for count in range(256):
+        state = a_state(draw)._replace(doubtful=count)
+        yield a_send(draw, EXAMPLE, draw.below(2), 1, state)
+
+
+def counts_alone(draw):
+    """Counts within bounds and beyond, for both entries, with no frame and with one."""
+    for count in (0, 1, 12, 23, 24, 25, 26, 31, 32, 48, 56, 127, 128, 152, 255):
+        record, law = a_record(draw, draw.between(1, 28)), draw.below(2)
+        state = a_state(draw)._replace(doubtful=count)
+        for frames in (0, 1):
+            yield a_send(draw, record, law, frames, state)
+            yield a_receive(draw, record, law, state, draw.octets(6 * frames))
+    for count in (24, 25):
+        state = a_state(draw)._replace(doubtful=count)
+        yield send_case(EMPTY, MU, 0, state, b"", 0)
+        yield receive_case(EMPTY, A, 0, state, b"", 0, 0)
+
+
+def count_faults(draw):
+    """18 together with every other refusal but 25, and in greater sets at random."""
+    return faults_with(draw, 18, [pair for pair in pairs() if 18 in pair and 25 not in pair])
+
+
 def cases():
     """The stored cases in order."""
     draw = Draw(9105)
     found = list(example_calls())
     for group in (marked_frames, number_edges, states, no_frames, faulty_cases, runs, long_calls,
-                  linear_cases, sparse_calls, sparse_faults, six_masks):
+                  linear_cases, sparse_calls, sparse_faults, six_masks, counted_frames,
+                  each_mark_counted, cold_starts, every_count_sent, counts_alone, count_faults):
         found += group(draw)
     return found

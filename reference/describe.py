@@ -1,14 +1,12 @@
 """Words about a CP: what it says, why a file is refused, and the text of `v91 demo`."""
 
 from cp import length, read_cp, record_in, write_cp
-from frames import FRESH, frame_bits, receive, send
+from frames import FRESH, MOST_DOUBTFUL, frame_bits, receive, send
 from record import EXAMPLE, k_of, mask_of, sizes_of
 from table1 import MU, octet_of
 
 # The lengths of a CP in bytes, and the bits of each.
 CP_LENGTHS = {(length(g) + 7) // 8: length(g) for g in range(6)}
-
-DOUBTFUL = 24
 
 
 def counted(number, word):
@@ -142,8 +140,8 @@ def demo_lines():
     octets = send(EXAMPLE, MU, 3, FRESH, ones, bytes(18))[2]
     damaged = octets[:2] + bytes([octet_of(MU, 1, 127)]) + octets[3:]
     width = frame_bits(EXAMPLE)
-    sound = width + DOUBTFUL
-    wrong = wrong_bits(ones, reception(damaged)[0], width, DOUBTFUL)
+    sound = width + MOST_DOUBTFUL
+    wrong = wrong_bits(ones, reception(damaged)[0], width, MOST_DOUBTFUL)
     return [
         "A CP sequence, as the far end sends it, in 37 bytes:",
         f"  {example_cp().hex()}",
@@ -156,7 +154,7 @@ def demo_lines():
         *line_and_reception(damaged),
         "frame 0 is marked: interval 2 is outside its mask; "
         f"its bits, 0 to {width - 1}, are given as zeros",
-        f"bits {width} to {sound - 1}, the {DOUBTFUL} after it, are doubtful: "
+        f"bits {width} to {sound - 1}, the {MOST_DOUBTFUL} after it, are doubtful: "
         f"{wrong} of them are not as sent",
         f"bits {sound} to 62 are as sent again",
     ]

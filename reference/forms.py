@@ -1,7 +1,7 @@
 """The stored cases: one call of an entry as a byte string, and its answer as another.
 
 A case begins with its kind. The last field takes all the rest; count8 is 8 bytes and len2 2 bytes,
-low byte first; a record is 105 bytes, a line state 5, a law 1. A refusal is 2 bytes: its number, 0
+low byte first; a record is 105 bytes, a line state 6, a law 1. A refusal is 2 bytes: its number, 0
 for none, and its value, which is the interval for 25 and 0 for all others.
 
     00  read_cp   count8 bit count, CP bytes
@@ -108,12 +108,12 @@ def arguments(case):
     if kind == LINEAR:
         return kind, (form[0], form[3:], samples_lent(number(form[1:3])))
     rec, law = record.unpack(form[:105]), form[105]
-    count, state = number(form[106:114]), frames.unpack_state(form[114:119])
+    count, state = number(form[106:114]), frames.unpack_state(form[114:120])
     if kind == SEND:
-        lent = octets_lent(number(form[119:121]))
-        return kind, (rec, law, count, state, form[121:], lent)
-    lent = bits_lent(number(form[119:121])), marks_lent(number(form[121:123]))
-    return kind, (rec, law, count, state, form[123:], *lent)
+        lent = octets_lent(number(form[120:122]))
+        return kind, (rec, law, count, state, form[122:], lent)
+    lent = bits_lent(number(form[120:122])), marks_lent(number(form[122:124]))
+    return kind, (rec, law, count, state, form[124:], *lent)
 
 
 def outcome(case):

@@ -1,4 +1,4 @@
-"""Sending and receiving frames: document 01, 'From data to line'.
+"""Sending and receiving frames: document 01, 'From data to line', and A.1 of document 02.
 
 The bits of a frame are handled as one number, the first in time at weight 1.
 """
@@ -11,21 +11,26 @@ from record import faults as record_faults, k_of, mask_of
 from refusals import Refusal
 from table1 import octet_of, ucode_of
 
-State = namedtuple("State", "history sign")
+State = namedtuple("State", "history sign doubtful")
 
-FRESH = State(0, 0)
 HISTORIES = 2**23
+MOST_DOUBTFUL = 24
 MOST_FRAMES = 1024
-BYTE_FORM = struct.Struct("<IB")
+
+# A receiver told that it begins cold has the largest count of doubtful bits, every other end 0.
+FRESH = State(0, 0, 0)
+COLD = State(0, 0, MOST_DOUBTFUL)
+
+BYTE_FORM = struct.Struct("<IBB")
 
 
 def pack_state(state):
-    """The line state in five bytes: the history with its low byte first, then the last sign."""
+    """The line state in six bytes: the history, its low byte first, the last sign, the count."""
     return BYTE_FORM.pack(*state)
 
 
 def unpack_state(form):
-    """The line state that `pack_state` put into five bytes."""
+    """The line state that `pack_state` put into six bytes."""
     return State(*BYTE_FORM.unpack(form))
 
 
@@ -140,15 +145,27 @@ def sign_bits(last, signs):
                for i, (sign, before) in enumerate(zip(signs, [last] + signs[:5])))
 
 
+# The count of doubtful bits (A.1)
+
+def doubt_after_mark(doubtful):
+    """The count after a marked frame."""
+    return MOST_DOUBTFUL
+
+
+def doubt_after_good(record, doubtful):
+    """The count after a good frame: D less, and not below 0."""
+    return max(doubtful - frame_bits(record), 0)
+
+
 # One frame
 
 def send_frame(record, law, state, data):
-    """(Six octets, state after them) for D data bits."""
+    """(Six octets, state after them) for D data bits; the count of doubtful bits stays."""
     line, history = scramble(state.history, data, frame_bits(record))
     ucodes = ucodes_for(interval_masks(record), line >> 6)
     signs = signs_for(state.sign, line)
     octets = bytes(octet_of(law, sign, ucode) for sign, ucode in zip(signs, ucodes))
-    return octets, State(history, signs[5])
+    return octets, State(history, signs[5], state.doubtful)
 
 
 def outside(masks, ucodes):
@@ -163,7 +180,8 @@ def too_large(record, number):
 
 def after_mark(record, state, octets):
     """The state a marked frame leaves: D zeros in the history, the sixth octet's sign."""
-    return State((state.history << frame_bits(record)) % HISTORIES, octets[5] >> 7)
+    history = (state.history << frame_bits(record)) % HISTORIES
+    return State(history, octets[5] >> 7, doubt_after_mark(state.doubtful))
 
 
 def receive_frame(record, law, state, octets):
@@ -179,13 +197,13 @@ def receive_frame(record, law, state, octets):
     signs = [octet >> 7 for octet in octets]
     line = sign_bits(state.sign, signs) | number << 6
     data, history = descramble(state.history, line, frame_bits(record))
-    return 0, data, State(history, signs[5])
+    return 0, data, State(history, signs[5], doubt_after_good(record, state.doubtful))
 
 
 # The entries
 
 def call_faults(record, frames, state, read, written):
-    """The refusals 4, 9, 10, 25 and 11 to 17 that hold, in this order.
+    """The refusals 4, 9, 10, 25, 11 to 14, 18 and 15 to 17 that hold, in this order.
 
     `read` and `written` list (bytes lent, bytes needed). Where drn is 0 or exceeds 28, what is
     needed is judged by the same formula in drn.
@@ -195,6 +213,8 @@ def call_faults(record, frames, state, read, written):
         yield Refusal(13)
     if state.history >= HISTORIES:
         yield Refusal(14)
+    if state.doubtful > MOST_DOUBTFUL:
+        yield Refusal(18)
     if frames > MOST_FRAMES:
         yield Refusal(15)
     if any(lent < needed for lent, needed in read):

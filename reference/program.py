@@ -7,13 +7,14 @@ written, and `<` or `>` without a command before or a file after it.
 """
 
 import re
+from collections import namedtuple
 
 from cp import write_cp
-from describe import (DOUBTFUL, counted, demo_lines, description, example_cp, read_file,
-                      refusal_sentence, shown)
+from describe import (counted, demo_lines, description, example_cp, read_file, refusal_sentence,
+                      shown)
 from dil import TABLE_5, length as dil_length, send_dil
-from frames import (FRESH, MOST_FRAMES, add_bits, data_bytes, frame_bits, get_bits, receive_frame,
-                    send_frame)
+from frames import (COLD, FRESH, MOST_DOUBTFUL, MOST_FRAMES, add_bits, data_bytes, frame_bits,
+                    get_bits, receive_frame, send_frame)
 from linear import linear
 from picture import LAW_NAMES, Picture, found_line, svg_lines, text_lines
 from plan import MOST_CEILING, RATES, SPACINGS, largest_spacing, plan, points_wanted
@@ -22,7 +23,7 @@ from table1 import A, MU
 
 LAWS = {"mu": MU, "ulaw": MU, "a": A, "alaw": A}
 MOST_RUNS = 20
-VERSION = "v91 3"
+VERSION = "v91 4"
 HELP = ("help", "--help", "-h")
 
 NO_FILE = "there is no such file"
@@ -84,10 +85,15 @@ def bytes_wanted(words):
     for word in words:
         if is_number(word):
             wanted = int(word)
-        elif word.lower() != "progress":
+        elif word.lower() not in ("cold", "progress"):
             raise Failed("after LAW receive takes BYTES, a number of 1 to 18 digits, "
-                         "and the word progress alone")
+                         "and the words cold and progress alone")
     return wanted
+
+
+def state_told(words):
+    """The state in which the receiver begins: cold where the word cold follows LAW, else fresh."""
+    return COLD if "cold" in [word.lower() for word in words] else FRESH
 
 
 def cp_in(files, name):
@@ -147,6 +153,11 @@ def send(call, cp_name, law_name, *options):
 
 # Receiving
 
+# What the receiver made of frames: the data bits in bytes, the marks, how many bits of good frames
+# are doubtful, and the state left.
+Reception = namedtuple("Reception", "data marks doubtful state")
+
+
 def octets_read(record, octets, wanted):
     """The octets that are read: calls of 1,024 frames, as many as BYTES asks for."""
     if wanted is None:
@@ -155,15 +166,22 @@ def octets_read(record, octets, wanted):
     return octets[:6 * MOST_FRAMES * calls]
 
 
-def data_and_marks(record, law, octets):
-    """(Data bits in bytes, marks) of the whole frames among octets, from the fresh state."""
+def doubtful_bits(mark, width, count):
+    """How many bits of a frame are doubtful: in a good one those below the count before it."""
+    return 0 if mark else min(width, count)
+
+
+def reception(record, law, state, octets):
+    """What the receiver makes of the whole frames among octets, from a state."""
     count, width = len(octets) // 6, frame_bits(record)
-    state, data, marks = FRESH, bytearray(data_bytes(record, count)), []
+    data, marks, doubtful = bytearray(data_bytes(record, count)), [], 0
     for n in range(count):
+        before = state.doubtful
         mark, bits, state = receive_frame(record, law, state, octets[6 * n:6 * n + 6])
         add_bits(data, n * width, width, bits)
         marks.append(mark)
-    return bytes(data), marks
+        doubtful += doubtful_bits(mark, width, before)
+    return Reception(bytes(data), marks, doubtful, state)
 
 
 def runs_of(marks):
@@ -182,7 +200,7 @@ def run_sentence(mark, first, last, good_follows):
     where = f"frame {first}" if first == last else f"frames {first} to {last}"
     what = ("the number R is 2^K or more" if mark == 7
             else f"interval {mark - 1} outside its mask")
-    doubt = f"; the {DOUBTFUL} bits after that are doubtful" if good_follows else ""
+    doubt = f"; the {MOST_DOUBTFUL} bits after that are doubtful" if good_follows else ""
     return f"{where}: {what}{doubt}"
 
 
@@ -192,55 +210,54 @@ def run_sentences(marks):
             for mark, first, last in runs_of(marks) if mark]
 
 
-def doubtful_bits(marks, width):
-    """How many bits of good frames are among the 24 after a marked frame."""
-    total = left = 0
-    for mark in marks:
-        if mark:
-            left = DOUBTFUL
-        else:
-            total += min(width, left)
-            left = max(left - width, 0)
-    return total
-
-
 def received_sentence(marks):
     """What is said of frames received."""
     marked = sum(mark > 0 for mark in marks)
     return f"{counted(len(marks), 'frame')} received, {marked} of them marked"
 
 
-def say_reception(call, record, marks, left_over):
+def coming_sentence(state):
+    """What is said of bits to come: the count in the state left."""
+    return f"{counted(state.doubtful, 'coming bit')} to distrust"
+
+
+def summary(got):
+    """What is said of a reception at its end."""
+    sentences = [received_sentence(got.marks)]
+    if any(got.marks) or got.doubtful:
+        sentences.append(f"{counted(got.doubtful, 'bit')} of good frames doubtful in all")
+    return [*sentences, coming_sentence(got.state)]
+
+
+def say_reception(call, got, left_over):
     """Say what was received, but for the runs of marked frames that were said before."""
-    more = len(run_sentences(marks)) - MOST_RUNS
-    doubtful = doubtful_bits(marks, frame_bits(record))
+    more = len(run_sentences(got.marks)) - MOST_RUNS
     if more > 0:
         call.say(f"{counted(more, 'more run')} of marked frames")
-    call.say(received_sentence(marks))
-    if doubtful:
-        call.say(f"{counted(doubtful, 'doubtful bit')} after marked frames")
+    for sentence in summary(got):
+        call.say(sentence)
     if left_over:
         call.say(f"{counted(left_over, 'octet')} at the end too few for a frame")
 
 
 def receive(call, cp_name, law_name, *options):
-    """`receive CPFILE LAW [BYTES] [progress]`."""
-    law, wanted = law_named(law_name), bytes_wanted(options)
+    """`receive CPFILE LAW [BYTES] [cold] [progress]`."""
+    law, wanted, state = law_named(law_name), bytes_wanted(options), state_told(options)
     record = cp_in(call.files, cp_name)
     octets = octets_read(record, call.input, wanted)
     count, left_over = divmod(len(octets), 6)
     if count and record.drn == 0:
-        raise Failed(received_sentence([]), CLEARDOWN)
-    data, marks = data_and_marks(record, law, octets)
+        raise Failed(*summary(reception(record, law, state, b"")), CLEARDOWN)
+    got = reception(record, law, state, octets)
     whole, rest = divmod(count * frame_bits(record), 8)
-    for sentence in run_sentences(marks)[:MOST_RUNS]:
+    for sentence in run_sentences(got.marks)[:MOST_RUNS]:
         call.say(sentence)
-    call.write(data[:wanted])
-    say_reception(call, record, marks, left_over)
-    if data[whole:wanted]:
+    call.write(got.data[:wanted])
+    say_reception(call, got, left_over)
+    if got.data[whole:wanted]:
         call.say(f"{counted(rest, 'bit')} of data in the last byte")
-    if wanted is not None and len(data) < wanted:
-        raise Failed(f"the input ended {counted(wanted - len(data), 'byte')} of data too early")
+    if wanted is not None and len(got.data) < wanted:
+        raise Failed(f"the input ended {counted(wanted - len(got.data), 'byte')} of data too early")
 
 
 # Planning
@@ -371,7 +388,7 @@ def tell_version(call):
 
 
 # Each command with the least and the most words after it.
-COMMANDS = {"cp": (tell_cp, 1, 1), "send": (send, 2, 4), "receive": (receive, 2, 4),
+COMMANDS = {"cp": (tell_cp, 1, 1), "send": (send, 2, 4), "receive": (receive, 2, 5),
             "linear": (tell_linear, 1, 2), "dil": (write_dil, 1, 1), "plan": (write_plan, 4, 5),
             "demo": (demo, 0, 1), "--version": (tell_version, 0, 0)}
 

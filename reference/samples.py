@@ -3,7 +3,7 @@
 import math
 import random
 
-from frames import State
+from frames import MOST_DOUBTFUL, State
 from record import FULL_MASK, k_of, make, masks_of, sizes_of
 
 
@@ -75,9 +75,14 @@ def a_record(draw, drn, g=None, granted=0, most=128):
     return make(granted, drn, draw.below(2), indices, masks)
 
 
+def a_doubt(draw):
+    """A count of doubtful bits within bounds, often the least or the largest."""
+    return draw.pick((0, MOST_DOUBTFUL, draw.between(0, MOST_DOUBTFUL)))
+
+
 def a_state(draw):
     """A line state within bounds."""
-    return State(draw.bits(23), draw.below(2))
+    return State(draw.bits(23), draw.below(2), a_doubt(draw))
 
 
 # Records at fault

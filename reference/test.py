@@ -28,7 +28,7 @@ import program
 import record as records
 import trial
 import vectors
-from frames import FRESH, State
+from frames import COLD, FRESH, State
 from linear import linear
 from record import EMPTY, EXAMPLE, FULL_MASK, k_of, make, mask_of
 from refusals import ORDER, Refusal, in_order
@@ -106,7 +106,7 @@ def examples():
     zeros, ones = bytes(3), b"\xff" * 3
     same(sent(EXAMPLE, MU, 1, FRESH, zeros)[0].hex(), "7a" * 6, "B1")
     octets, state = sent(EXAMPLE, MU, 1, FRESH, ones)
-    same((octets.hex(), state), ("fd7eff7afd7a", State(2097144, 0)), "B2")
+    same((octets.hex(), state), ("fd7eff7afd7a", State(2097144, 0, 0)), "B2")
     same(number_of(octets), 4095, "B2's R")
     same(number_of(b"\xff" * 6), 46655, "B3's R")
     same(received(EXAMPLE, MU, FRESH, b"\xff" * 6)[0], [7], "B3")
@@ -117,8 +117,8 @@ def examples():
     same(received(EXAMPLE, MU, FRESH, strangers)[0], [3], "B5")
     line = sent(EXAMPLE, MU, 2, FRESH, bytes(6))[0]
     same(received(EXAMPLE, MU, FRESH, line)[:2], ([0, 0], 0), "two frames of zeros")
-    same(received(EXAMPLE, MU, State(0, 1), line)[:2], ([0, 0], ones_at(0, 18, 23)), "B6")
-    same(received(EXAMPLE, MU, State(1, 0), line)[:2], ([0, 0], ones_at(17, 22)), "B7")
+    same(received(EXAMPLE, MU, State(0, 1, 0), line)[:2], ([0, 0], ones_at(0, 18, 23)), "B6")
+    same(received(EXAMPLE, MU, State(1, 0, 0), line)[:2], ([0, 0], ones_at(17, 22)), "B7")
     same(sent(EXAMPLE, A, 1, FRESH, zeros)[0].hex(), "50" * 6, "B8")
     example_sizes()
     same([octet_of(law, sign, 64) for law in (MU, A) for sign in (1, 0)],
@@ -170,10 +170,11 @@ def values():
     same(cp.bits_of(cases_cp.ALL_FULL) >> 273 + 680 & 0xFFFF, 0x9A29, "CRC of full masks")
     octets, state = sent(EXAMPLE, MU, 3, FRESH, b"\xff" * 8)
     same(octets.hex(), "fd7eff7afd7a7b7bfc7cfa7a7d7a7d7eff7d", "63 ones")
-    same(state, State(130575, 0), "state after 63 ones")
-    same(received(EXAMPLE, MU, State(7, 0), b"\xff" * 6), ([7], 0, State(6291456, 1)), "mark 7")
-    same(received(cases_frames.SEVEN_UCODES, MU, State(1, 0), b"\x80" * 6),
-         ([1], 0, State(4194304, 1)), "mark 1 at D = 22")
+    same(state, State(130575, 0, 0), "state after 63 ones")
+    same(received(EXAMPLE, MU, State(7, 0, 0), b"\xff" * 6), ([7], 0, State(6291456, 1, 24)),
+         "mark 7")
+    same(received(cases_frames.SEVEN_UCODES, MU, State(1, 0, 0), b"\x80" * 6),
+         ([1], 0, State(4194304, 1, 24)), "mark 1 at D = 22")
     return "9 values"
 
 
@@ -256,8 +257,11 @@ def sender_list(draw, record, law, state, total):
 
 
 def receiver_list(draw, record, law, state, line):
-    """(Bits handed over, marks) of a receiver's list of calls, refused ones among them."""
-    handed, marks = [], []
+    """(Bits handed over, marks, counts) of a receiver's list of calls, refused ones among them.
+
+    The counts are those of doubtful bits in the states between calls: {frames read: count}.
+    """
+    handed, marks, counts = [], [], {0: state.doubtful}
     for count in cases_frames.a_cut(draw, len(line) // 6):
         if draw.below(4) == 0:
             refused_receive(draw, state)
@@ -267,7 +271,10 @@ def receiver_list(draw, record, law, state, line):
                                                     draw.octets(count))
         handed += bits_in(bits, count * frames.frame_bits(record))
         marks += call_marks
-    return handed, marks
+        if not count:
+            same(state.doubtful, counts[len(marks)], "the count after no frames")
+        counts[len(marks)] = state.doubtful
+    return handed, marks, counts
 
 
 def demand_3():
@@ -291,12 +298,151 @@ def demand_3():
         if hurt:
             doubtful |= set(range(a * width, (b + 1) * width + 24))
         stop = draw.between(0, total)
-        handed, marks = receiver_list(draw, record, law, begin, line[:6 * stop])
+        handed, marks, _ = receiver_list(draw, record, law, begin, line[:6 * stop])
         same(len(handed), stop * width, "bits handed over")
         wrong = {p for p in range(len(handed)) if handed[p] != message[p]}
         check(wrong <= doubtful, f"wrong bits {sorted(wrong - doubtful)}")
         check(all(marks[i] == 0 for i in range(stop) if i not in hurt), "a good frame is marked")
     return "1200 runs"
+
+
+# Doubtful bits (A.1)
+
+def count_before(width, marks, begun, frame):
+    """The count before a frame: 24, or the one begun with, less the good bits since, or 0."""
+    marked = [n for n in range(frame) if marks[n]]
+    if marked:
+        return max(24 - width * (frame - 1 - marked[-1]), 0)
+    return max(begun - width * frame, 0)
+
+
+def altered(draw, record, law, frame):
+    """Six octets in place of a frame that get a mark: drawn until they do."""
+    while True:
+        made = bytearray(draw.pick((frame, draw.octets(6))))
+        made[draw.below(6)] ^= draw.between(1, 255)
+        mark = draw.pick(cases_frames.possible_marks(record))
+        made = draw.pick((bytes(made), cases_frames.a_frame(draw, record, law, mark)))
+        if frames.receive_frame(record, law, FRESH, made)[0]:
+            return made
+
+
+def with_marks(draw, record, law, line):
+    """(The line with some frames altered, each so that it is marked; which they are)."""
+    chance = draw.pick((2, 3, 6))
+    damage = [bool(cases_frames.possible_marks(record)) and draw.below(chance) == 0
+              for _ in range(len(line) // 6)]
+    made = [altered(draw, record, law, line[6 * n:6 * n + 6]) if hurt else line[6 * n:6 * n + 6]
+            for n, hurt in enumerate(damage)]
+    return b"".join(made), damage
+
+
+def wrong_places(width, message, handed, marks):
+    """The bits of good frames that are not as sent: (frame, place in it)."""
+    return [divmod(p, width) for p, bit in enumerate(handed)
+            if bit != message[p] and not marks[p // width]]
+
+
+def distrusted_run(draw, record, law, total):
+    """The kinds of edges that a run of marked damage met: how near its wrong bits come to a count.
+
+    A receiver told cold begins in any history and sign; another in the sender's, with any count.
+    """
+    width, start, cold = frames.frame_bits(record), a_state(draw), draw.below(2)
+    message, line = sender_list(draw, record, law, start, total)
+    line, damage = with_marks(draw, record, law, line)
+    begun = 24 if cold else draw.pick((0, draw.between(0, 24)))
+    begin = (a_state(draw) if cold else start)._replace(doubtful=begun)
+    handed, marks, counts = receiver_list(draw, record, law, begin, line)
+    same([mark > 0 for mark in marks], damage, "frames marked")
+    before = [count_before(width, marks, begun, n) for n in range(total + 1)]
+    for n, count in counts.items():
+        same(count, before[n], "the count in a state")
+    check(max(before) <= 24, "a count above 24")
+    met = set()
+    for frame, place in wrong_places(width, message, handed, marks):
+        check(place < before[frame], f"bit {place} of frame {frame} is wrong, D = {width}")
+        if place >= before[frame + 1]:
+            met.add("past the count after the frame")
+        if place == before[frame] - 1:
+            met.add(("last after " + ("a mark" if any(marks[:frame]) else "a cold start"), width))
+    return met
+
+
+def distrust():
+    """A good frame's bits past as many as the count before it are as sent; no smaller count does.
+
+    At each D some run has the last bit of the 24 wrong, after a mark and after a cold start; at
+    D = 48 no frame is marked.
+    """
+    draw, met = Draw(12), set()
+    for n in range(2800):
+        record, law = a_record(draw, 1 + n % 28), draw.below(2)
+        met |= distrusted_run(draw, record, law, draw.between(1, 12))
+    same(met, {"past the count after the frame",
+               *(("last after a mark", width) for width in range(21, 48)),
+               *(("last after a cold start", width) for width in range(21, 49))}, "edges met")
+    line = sent(EXAMPLE, MU, 2, FRESH, bytes(6))[0]
+    same(received(EXAMPLE, MU, State(0, 1, 24), line)[1:], (ones_at(0, 18, 23), State(0, 0, 0)),
+         "B6 cold")
+    same([received(EXAMPLE, MU, COLD, line[:6 * n])[2].doubtful for n in range(3)], [24, 3, 0],
+         "counts of B6")
+    return "2800 runs"
+
+
+def same_but_count(state, other):
+    """Stop the group unless two states differ in the count of doubtful bits at most."""
+    same(state._replace(doubtful=0), other._replace(doubtful=0), "history and sign")
+
+
+def other_counts():
+    """A differing count changes no octet, bit or mark, and neither history nor sign."""
+    draw = Draw(13)
+    for n in range(400):
+        record, law, count = a_record(draw, 1 + n % 28), draw.below(2), draw.between(0, 8)
+        state = a_state(draw)
+        other = state._replace(doubtful=draw.between(0, 24))
+        data = draw.octets(frames.data_bytes(record, count))
+        octets, after = sent(record, law, count, state, data)
+        octets_too, after_too = sent(record, law, count, other, data)
+        same(octets, octets_too, "octets")
+        same_but_count(after, after_too)
+        same((after.doubtful, after_too.doubtful), (state.doubtful, other.doubtful), "sent counts")
+        if count:
+            octets = cases_frames.damaged(draw, record, law, octets)
+        *heard, after = received(record, law, state, octets)
+        *heard_too, after_too = received(record, law, other, octets)
+        same(heard, heard_too, "marks and bits")
+        same_but_count(after, after_too)
+    return "400 pairs of states"
+
+
+def stored_counts():
+    """Counts that the stored cases must have: each of the sender, the edges of the receiver."""
+    sent_counts, declined, stepped = {}, set(), set()
+    for case, answer in stored_cases():
+        kind, args = forms.arguments(case)
+        if kind not in (forms.SEND, forms.RECEIVE):
+            continue
+        record, _, count, state = args[:4]
+        if answer[0] == 18:
+            declined.add((kind, min(count, 1)))
+        if kind == forms.SEND and count == 1 and record == EXAMPLE:
+            sent_counts.setdefault(state.doubtful, set()).add(answer[0])
+        if kind == forms.RECEIVE and not answer[0]:
+            width, marks = frames.frame_bits(record), forms.outcome(case)[3][:count]
+            for n, mark in enumerate(marks):
+                before = count_before(width, marks, state.doubtful, n)
+                stepped.add((width, before, mark > 0))
+            same(forms.outcome(case)[1].doubtful,
+                 count_before(width, marks, state.doubtful, count), "a stored count")
+    same(sent_counts, {count: {18 if count > 24 else 0} for count in range(256)}, "those of send")
+    same(declined, set(product((forms.SEND, forms.RECEIVE), (0, 1))), "18 with frames and without")
+    for width in (21, 22, 23, 24, 34, 47, 48):
+        edges = {0, 1, 23, 24} | {c for c in (width - 1, width, width + 1) if c <= 24}
+        wanted = set(product([width], edges, [False] if width == 48 else [False, True]))
+        check(wanted <= stepped, f"counts at D = {width}: {wanted - stepped}")
+    return f"{len(sent_counts)} counts of the sender, {len(stepped)} steps of the receiver"
 
 
 # The stored cases
@@ -730,8 +876,9 @@ def stored_plans():
 
 RIGHT = {name: getattr(frames, name)
          for name in ("points", "labels", "interval_masks", "get_bits", "add_bits", "scramble",
-                      "send_frame", "receive_frame", "call_faults", "send_faults", "receive_faults",
-                      "outside", "receive")}
+                      "send_frame", "receive_frame", "after_mark", "doubt_after_good",
+                      "call_faults", "send_faults", "receive_faults", "outside", "send",
+                      "receive")}
 RIGHT_CP = {name: getattr(cp, name)
             for name in ("covered", "crc", "record_in", "record_faults", "reader_faults",
                          "writer_faults")}
@@ -741,17 +888,17 @@ RIGHT_DIL = {name: getattr(dil, name) for name in ("octets_of", "send_dil", "sym
 
 def history_zeroed(record, state, octets):
     """After a mark: no history."""
-    return State(0, octets[5] >> 7)
+    return RIGHT["after_mark"](record, state, octets)._replace(history=0)
 
 
 def history_kept(record, state, octets):
     """After a mark: the old history."""
-    return State(state.history, octets[5] >> 7)
+    return RIGHT["after_mark"](record, state, octets)._replace(history=state.history)
 
 
 def sign_kept(record, state, octets):
     """After a mark: the old sign."""
-    return State((state.history << frames.frame_bits(record)) % 2**23, state.sign)
+    return RIGHT["after_mark"](record, state, octets)._replace(sign=state.sign)
 
 
 def sender_sign_reset(record, law, state, data):
@@ -969,10 +1116,10 @@ def without(faults, number):
     return lambda *args: (fault for fault in faults(*args) if fault.number != number)
 
 
-def moved_before(number, faults):
-    """A list of refusals with 25 looked at just before another."""
-    order = [n for n in ORDER if n != 25]
-    order.insert(order.index(number), 25)
+def moved_before(number, faults, moved=25):
+    """A list of refusals with 25, or another one, looked at just before one of them."""
+    order = [n for n in ORDER if n != moved]
+    order.insert(order.index(number), moved)
     return lambda *args: iter(sorted(faults(*args), key=lambda fault: order.index(fault.number)))
 
 
@@ -1031,6 +1178,85 @@ def empty_with_frames(record, count, *rest):
     """25 is looked at only where there are frames."""
     faults = RIGHT["call_faults"]
     return (faults if count else without(faults, 25))(record, count, *rest)
+
+
+def doubt_by(after_good=None, after_mark=None):
+    """The changes that give the count of doubtful bits another rule.
+
+    `after_good` is made from D and the count, `after_mark` from the count alone.
+    """
+    changes = {}
+    if after_good:
+        changes["frames.doubt_after_good"] = lambda record, doubtful: after_good(
+            frames.frame_bits(record), doubtful)
+    if after_mark:
+        changes["frames.doubt_after_mark"] = after_mark
+    return changes
+
+
+def sender_counting(change):
+    """The changes that let the sender make another count from D and the count."""
+    def send_frame(record, law, state, data):
+        octets, after = RIGHT["send_frame"](record, law, state, data)
+        doubtful = change(frames.frame_bits(record), state.doubtful)
+        return octets, after._replace(doubtful=doubtful)
+    return {"frames.send_frame": send_frame}
+
+
+def doubt_set_by(marks):
+    """The changes that let only these marks set the count; after others it is as it was."""
+    def receive_frame(record, law, state, octets):
+        mark, data, after = RIGHT["receive_frame"](record, law, state, octets)
+        if mark and mark not in marks:
+            after = after._replace(doubtful=state.doubtful)
+        return mark, data, after
+    return {"frames.receive_frame": receive_frame}
+
+
+def counting_calls(change):
+    """The changes that make another count from D, marks and counts before and after a call."""
+    def receive(record, law, count, state, octets, bits, marks):
+        refusal, after, heard, judged = RIGHT["receive"](record, law, count, state, octets, bits,
+                                                         marks)
+        if not refusal:
+            doubtful = change(frames.frame_bits(record), judged[:count], state.doubtful,
+                              after.doubtful)
+            after = after._replace(doubtful=doubtful)
+        return refusal, after, heard, judged
+    return {"frames.receive": receive}
+
+
+def lowered_once(width, marks, before, after):
+    """The count is lowered by one frame, however many there are in the call."""
+    return 24 if any(marks) else max(before - width, 0) if marks else before
+
+
+def lowered_by_all(width, marks, before, after):
+    """A mark in the call sets the count, which all good frames then lower, earlier ones too."""
+    begun = 24 if any(marks) else before
+    return max(begun - width * list(marks).count(0), 0)
+
+
+def declined_counts(sender=range(25, 256), receiver=range(25, 256), with_frames_alone=False):
+    """The changes that let each entry have 18 for other counts, or where there are frames alone."""
+    def having(faults, counts):
+        def found(record, law, count, state, *buffers):
+            held = list(faults(record, law, count, state, *buffers))
+            others = [fault for fault in held if fault.number != 18]
+            if state.doubtful in counts and (count or not with_frames_alone):
+                others.append(Refusal(18))
+            return iter(sorted(others, key=lambda fault: ORDER.index(fault.number)))
+        return found
+    return {"frames.send_faults": having(RIGHT["send_faults"], sender),
+            "frames.receive_faults": having(RIGHT["receive_faults"], receiver)}
+
+
+def count_zeroed_by_refusal(entry):
+    """The changes that let an entry that declines return the count 0."""
+    def call(*args):
+        refusal, after, *rest = RIGHT[entry](*args)
+        return refusal, after._replace(doubtful=0) if refusal else after, *rest
+    return {f"frames.{entry}": call}
 
 
 def marks_room_ignored(record, law, count, state, octets, bits, marks):
@@ -1166,6 +1392,18 @@ def dil_in_no_buffer(law, octets):
     return RIGHT_DIL["send_dil"](law, octets) if octets else (None, b"")
 
 
+def count_at_once(record, state, octets):
+    """A marked frame sets the count and lowers it too."""
+    after = RIGHT["after_mark"](record, state, octets)
+    return after._replace(doubtful=RIGHT["doubt_after_good"](record, after.doubtful))
+
+
+def counts_told(number):
+    """The changes that give 18 another number."""
+    return {"frames.call_faults": lambda *args: (Refusal(number) if fault.number == 18 else fault
+                                                 for fault in RIGHT["call_faults"](*args))}
+
+
 WRONG_CODECS = {
     "history zeroed on a mark": {"frames.after_mark": history_zeroed},
     "history kept on a mark": {"frames.after_mark": history_kept},
@@ -1263,6 +1501,54 @@ WRONG_CODECS = {
     "unnamed masks counted as empty": {"record.empty_intervals": unnamed_count_as_empty},
     "lower half alone looked at": {"record.empty_intervals": empty_by_half(0)},
     "upper half alone looked at": {"record.empty_intervals": empty_by_half(1)},
+    "count lowered by K": doubt_by(lambda width, doubtful: max(doubtful - (width - 6), 0)),
+    "count lowered by D - 1": doubt_by(lambda width, doubtful: max(doubtful - (width - 1), 0)),
+    "count lowered by D + 1": doubt_by(lambda width, doubtful: max(doubtful - (width + 1), 0)),
+    "count lowered by 6": doubt_by(lambda width, doubtful: max(doubtful - 6, 0)),
+    "count lowered by 1": doubt_by(lambda width, doubtful: max(doubtful - 1, 0)),
+    "count left by a good frame": doubt_by(lambda width, doubtful: doubtful),
+    "count 0 after a good frame": doubt_by(lambda width, doubtful: 0),
+    "count wraps below 0": doubt_by(lambda width, doubtful: (doubtful - width) % 256),
+    "count left where it is below D":
+        doubt_by(lambda width, doubtful: doubtful - width if doubtful >= width else doubtful),
+    "count not below 1": doubt_by(lambda width, doubtful: max(doubtful - width, min(doubtful, 1))),
+    "count raised by a good frame": doubt_by(lambda width, doubtful: min(doubtful + width, 24)),
+    "count left by a mark": doubt_by(after_mark=lambda doubtful: doubtful),
+    "count 0 after a mark": doubt_by(after_mark=lambda doubtful: 0),
+    "a mark sets 23": doubt_by(after_mark=lambda doubtful: 23),
+    "a mark sets 25": doubt_by(after_mark=lambda doubtful: 25),
+    "a mark adds 24, up to 255": doubt_by(after_mark=lambda doubtful: min(doubtful + 24, 255)),
+    "a mark adds 24 in a byte": doubt_by(after_mark=lambda doubtful: (doubtful + 24) % 256),
+    "a mark sets a count of 0 alone": doubt_by(after_mark=lambda doubtful: doubtful or 24),
+    "a mark sets the count and lowers it": {"frames.after_mark": count_at_once},
+    "mark 7 does not set the count": doubt_set_by(range(1, 7)),
+    "mark 7 alone sets the count": doubt_set_by([7]),
+    "mark 6 does not set the count": doubt_set_by([1, 2, 3, 4, 5, 7]),
+    "count lowered once a call": counting_calls(lowered_once),
+    "count lowered by all frames of a call": counting_calls(lowered_by_all),
+    "count 0 after no frames":
+        counting_calls(lambda width, marks, before, after: after if marks else 0),
+    "sender lowers the count": sender_counting(lambda width, doubtful: max(doubtful - width, 0)),
+    "sender sets the count to 0": sender_counting(lambda width, doubtful: 0),
+    "sender sets the count to 24": sender_counting(lambda width, doubtful: 24),
+    "refused sender's count 0": count_zeroed_by_refusal("send"),
+    "refused receiver's count 0": count_zeroed_by_refusal("receive"),
+    "18 forgotten": {"frames.call_faults": without(RIGHT["call_faults"], 18)},
+    "18 by the sender alone": declined_counts(receiver=()),
+    "18 by the receiver alone": declined_counts(sender=()),
+    "18 with frames alone": declined_counts(with_frames_alone=True),
+    "18 from 24 on": declined_counts(range(24, 256), range(24, 256)),
+    "18 from 26 on": declined_counts(range(26, 256), range(26, 256)),
+    "18 of a byte with a sign": declined_counts(range(25, 128), range(25, 128)),
+    "18 by five bits": declined_counts(*[[c for c in range(256) if c % 32 > 24]] * 2),
+    "18 told as 14": counts_told(14),
+    "18 before 4": {"frames.call_faults": moved_before(4, RIGHT["call_faults"], 18)},
+    "18 before 13": {"frames.call_faults": moved_before(13, RIGHT["call_faults"], 18)},
+    "18 before 14": {"frames.call_faults": moved_before(14, RIGHT["call_faults"], 18)},
+    "18 after 15": {"frames.call_faults": moved_before(16, RIGHT["call_faults"], 18)},
+    "18 after 16": {"frames.call_faults": moved_before(17, RIGHT["call_faults"], 18)},
+    "18 after 17": {"frames.call_faults": lambda *args: iter(sorted(
+        RIGHT["call_faults"](*args), key=lambda fault: fault.number == 18))},
     "octets of A-law with D4": {"vectors.octet_by_rule": a_law_with_d4},
     "octets with the sign inverted": {"vectors.octet_by_rule": lambda law, sign, ucode:
                                       octet_by_rule(law, 1 - sign, ucode)},
@@ -1608,13 +1894,39 @@ def program_round_trips():
     return "200 messages"
 
 
-def doubtful_one_by_one(marks, width):
-    """How many bits of good frames have a bit of a marked frame among the 24 before them."""
-    total = 0
-    for place in range(len(marks) * width):
-        if marks[place // width] == 0:
-            total += any(marks[p // width] for p in range(max(place - 24, 0), place))
-    return total
+def doubtful_one_by_one(marks, width, cold):
+    """(Bits of good frames that are doubtful, and of the 24 to come), each bit by itself.
+
+    It is doubtful where one of the 24 bits before it is a marked frame's or comes before the start
+    of a receiver that begins cold.
+    """
+    end = len(marks) * width
+    hurt = [cold] * 24 + [mark > 0 for mark in marks for _ in range(width)] + [False] * 24
+    doubtful = [any(hurt[place:place + 24]) for place in range(end + 24)]
+    good = [mark == 0 for mark in marks for _ in range(width)]
+    return sum(doubtful[p] for p in range(end) if good[p]), sum(doubtful[end:])
+
+
+def program_doubts():
+    """What is counted as doubtful, in all and to come, against each bit by itself.
+
+    In the stored run a receiver that begins cold without the first frame has all but 24 bits right.
+    """
+    draw = Draw(6)
+    for n in range(300):
+        record, law, state = a_record(draw, 1 + n % 27), draw.below(2), draw.pick((FRESH, COLD))
+        kinds = [0, 0, draw.pick(cases_frames.possible_marks(record))]
+        marks = [draw.pick(kinds) for _ in range(draw.below(12))]
+        line = b"".join(cases_frames.a_frame(draw, record, law, mark) for mark in marks)
+        got = program.reception(record, law, state, line)
+        same(got.marks, marks, "marks")
+        same((got.doubtful, got.state.doubtful),
+             doubtful_one_by_one(marks, frames.frame_bits(record), state == COLD), "doubtful")
+    got = program.reception(trial.EIGHTS, MU, COLD, trial.lines_of_octets()["middle"])
+    whole = trial.messages()["two"]
+    same((got.doubtful, got.data[3:]), (24, whole[6:]), "a line without its first frame")
+    check(got.data[:3] != whole[3:6], "no bit is wrong after a cold start")
+    return "300 receptions, a line without its first frame"
 
 
 def program_sentences():
@@ -1624,20 +1936,24 @@ def program_sentences():
           "frame 4: the number R is 2^K or more",
           "frame 5: interval 0 outside its mask; the 24 bits after that are doubtful",
           "frame 7: interval 5 outside its mask"], "runs of marks")
-    draw = Draw(6)
-    for _ in range(200):
-        marks = [draw.pick((0, 0, draw.below(8))) for _ in range(draw.below(30))]
-        width = draw.between(21, 48)
-        same(program.doubtful_bits(marks, width), doubtful_one_by_one(marks, width), "doubtful")
     files = {"example.cp": cases_cp.plain(EXAMPLE), "data": b"ab", "octets": b"\x7a" * 15}
     same(said(files, "send example.cp MU < data > line"),
          ["v91: 1 frame sent; 5 zero bits added to fill the last one", "v91: ok"], "send")
     same(said(files, "receive example.cp a 9 < octets > back"),
          ["v91: frames 0 to 1: interval 0 outside its mask",
-          "v91: 2 frames received, 2 of them marked", "v91: 3 octets at the end too few for a frame",
-          "v91: 2 bits of data in the last byte", "v91: the input ended 3 bytes of data too early",
-          "v91: failed"], "receive")
+          "v91: 2 frames received, 2 of them marked",
+          "v91: 0 bits of good frames doubtful in all", "v91: 24 coming bits to distrust",
+          "v91: 3 octets at the end too few for a frame", "v91: 2 bits of data in the last byte",
+          "v91: the input ended 3 bytes of data too early", "v91: failed"], "receive")
     same((files["back"], len(files["line"])), (bytes(6), 6), "files written")
+    same(said(files, "receive example.cp MU Cold < octets > back"),
+         ["v91: 2 frames received, 0 of them marked", "v91: 24 bits of good frames doubtful in all",
+          "v91: 0 coming bits to distrust", "v91: 3 octets at the end too few for a frame",
+          "v91: 2 bits of data in the last byte", "v91: ok"], "receive cold")
+    same(said(files, "receive example.cp a cold"),
+         ["v91: 0 frames received, 0 of them marked", "v91: 24 coming bits to distrust", "v91: ok"],
+         "nothing received cold")
+    same(program.coming_sentence(State(5, 1, 1)), "1 coming bit to distrust", "one bit")
     same(said(files, "linear mu < data"), ["-356", "-340", "v91: ok"], "linear")
     same(said(files, "dil a > line"), ["v91: 125 segments of 12 octets sent", "v91: ok"], "dil")
     same(files["line"], dil.octets_of(A, dil.TABLE_5), "the octets of dil")
@@ -1783,10 +2099,10 @@ def stored_run():
 
 CALL = frames.MOST_FRAMES
 RIGHT_PROGRAM = {name: getattr(program, name)
-                 for name in ("COMMANDS", "bytes_wanted", "check_ceiling", "cp_in",
-                              "data_and_marks", "doubtful_bits", "number_for", "octets_for",
-                              "plan_sentence", "run_sentence", "runs_of", "send", "write_dil",
-                              "write_plan")}
+                 for name in ("COMMANDS", "bytes_wanted", "check_ceiling", "cp_in", "number_for",
+                              "octets_for", "plan_sentence", "receive", "reception",
+                              "run_sentence", "runs_of", "send", "state_told", "summary",
+                              "write_dil", "write_plan")}
 RIGHT_RUNS = describe.ucode_runs
 RIGHT_PICTURE = {name: getattr(picture, name)
                  for name in ("Picture", "bar", "drawn_at", "drawing", "gaps_of", "grid_lines",
@@ -1801,11 +2117,20 @@ def sender_fresh_each_call(record, law, count, data):
                     for first in range(0, count, CALL))
 
 
-def receiver_fresh_each_call(record, law, octets):
-    """Each call of the receiver begins in the fresh state."""
-    parts = [RIGHT_PROGRAM["data_and_marks"](record, law, octets[first:first + 6 * CALL])
-             for first in range(0, len(octets), 6 * CALL)]
-    return b"".join(data for data, _ in parts), [mark for _, marks in parts for mark in marks]
+def between_calls(change):
+    """The changes that give the receiver's calls after the first another state.
+
+    It is made from the state in which the first began and the one that the last left.
+    """
+    def reception(record, law, state, octets):
+        got = RIGHT_PROGRAM["reception"](record, law, state, octets[:6 * CALL])
+        for first in range(6 * CALL, len(octets), 6 * CALL):
+            data, marks, doubtful, left = RIGHT_PROGRAM["reception"](
+                record, law, change(state, got.state), octets[first:first + 6 * CALL])
+            got = program.Reception(got.data + data, got.marks + marks, got.doubtful + doubtful,
+                                    left)
+        return got
+    return {"program.reception": reception}
 
 
 def runs_cut_at_calls(marks):
@@ -1820,15 +2145,92 @@ def runs_of_all_marks(marks):
             in RIGHT_PROGRAM["runs_of"]([mark > 0 for mark in marks])]
 
 
-def doubt_ends_with_call(marks, width):
-    """No bit is doubtful by a frame of the call before."""
-    return sum(RIGHT_PROGRAM["doubtful_bits"](marks[base:base + CALL], width)
-               for base in range(0, len(marks), CALL))
+def doubtful_by(count):
+    """The changes that count other bits of a frame as doubtful, by its mark, D and the count."""
+    return {"program.doubtful_bits": count}
 
 
-def doubt_of_whole_frames(marks, width):
-    """All bits of the frame after a marked one are doubtful."""
-    return sum(width for before, mark in zip(marks, marks[1:]) if before and not mark)
+def received_from(part, change):
+    """The changes that give a part of a reception another value, made from all that is received."""
+    def reception(*args):
+        return RIGHT_PROGRAM["reception"](*args)._replace(**{part: change(*args)})
+    return {"program.reception": reception}
+
+
+def not_begun_cold(part):
+    """The changes that make a part of a reception as if the receiver began with the count 0."""
+    return received_from(part, lambda record, law, state, octets: getattr(
+        RIGHT_PROGRAM["reception"](record, law, state._replace(doubtful=0), octets), part))
+
+
+def state_before_last(record, law, state, octets):
+    """The state before the last frame."""
+    count = max(len(octets) // 6 - 1, 0)
+    return RIGHT_PROGRAM["reception"](record, law, state, octets[:6 * count]).state
+
+
+def told_cold(state):
+    """The changes that give a receiver told cold another state."""
+    return {"program.state_told": lambda words:
+            state if RIGHT_PROGRAM["state_told"](words) == COLD else FRESH}
+
+
+def cold_among(words_looked_at):
+    """The changes that look for the word cold among other words."""
+    return {"program.state_told": lambda words:
+            RIGHT_PROGRAM["state_told"](words_looked_at(words))}
+
+
+def summed_up(change):
+    """The changes that say other sentences at the end, made from those said and the reception."""
+    return {"program.summary": lambda got: change(RIGHT_PROGRAM["summary"](got), got)}
+
+
+def without_word(sentences, word):
+    """The sentences that lack a word."""
+    return [sentence for sentence in sentences if word not in sentence]
+
+
+def coming_last(call, got, left_over):
+    """The bits to come are told after the octets at the end."""
+    more = len(program.run_sentences(got.marks)) - program.MOST_RUNS
+    if more > 0:
+        call.say(f"{program.counted(more, 'more run')} of marked frames")
+    *first, coming = program.summary(got)
+    if left_over:
+        first.append(f"{program.counted(left_over, 'octet')} at the end too few for a frame")
+    for sentence in (*first, coming):
+        call.say(sentence)
+
+
+def failing_with(change):
+    """The changes that make other sentences of those that receive says where it fails."""
+    def command(call, *words):
+        try:
+            RIGHT_PROGRAM["receive"](call, *words)
+        except program.Failed as failure:
+            raise program.Failed(*change(failure.args)) from None
+    return {"program.COMMANDS": commands_with(receive=command)}
+
+
+def receive_taking(most):
+    """The changes that let receive take so many words."""
+    return {"program.COMMANDS": program.COMMANDS | {"receive": (program.receive, 2, most)}}
+
+
+def send_with_cold(call, cp_name, law_name, *options):
+    """The word cold is taken after LAW."""
+    options = [option for option in options if option.lower() != "cold"]
+    RIGHT_PROGRAM["send"](call, cp_name, law_name, *options)
+
+
+def told_of_progress_alone(words):
+    """What is said of wrong words leaves the word cold out."""
+    try:
+        return RIGHT_PROGRAM["bytes_wanted"](words)
+    except program.Failed as failure:
+        said_of = failure.args[0].replace("words cold and progress", "word progress")
+        raise program.Failed(said_of) from None
 
 
 def filled_with_ones(record, law, count, data):
@@ -1836,10 +2238,10 @@ def filled_with_ones(record, law, count, data):
     return RIGHT_PROGRAM["octets_for"](record, law, count, data + b"\xff" * 6)
 
 
-def last_byte_dropped(record, law, octets):
-    """Only bytes that are full are given."""
-    data, marks = RIGHT_PROGRAM["data_and_marks"](record, law, octets)
-    return data[:len(marks) * frames.frame_bits(record) // 8], marks
+def full_bytes(record, law, state, octets):
+    """Only those bytes of the data that are full."""
+    got = RIGHT_PROGRAM["reception"](record, law, state, octets)
+    return got.data[:len(got.marks) * frames.frame_bits(record) // 8]
 
 
 def first_number_kept(words):
@@ -2026,7 +2428,9 @@ def bands_end_at_points(y, point, x, before, width):
 
 WRONG_PROGRAMS = {
     "sender fresh in each call": {"program.octets_for": sender_fresh_each_call},
-    "receiver fresh in each call": {"program.data_and_marks": receiver_fresh_each_call},
+    "receiver fresh in each call": between_calls(lambda begun, left: FRESH),
+    "receiver's history fresh in each call":
+        between_calls(lambda begun, left: left._replace(history=0)),
     "runs cut at calls": {"program.runs_of": runs_cut_at_calls},
     "runs of all marks": {"program.runs_of": runs_of_all_marks},
     "runs of one frame": {"program.runs_of": lambda marks:
@@ -2035,15 +2439,65 @@ WRONG_PROGRAMS = {
                               RIGHT_PROGRAM["run_sentence"](mark, first + 1, last + 1, follows)},
     "doubt said always": {"program.run_sentence": lambda mark, first, last, follows:
                           RIGHT_PROGRAM["run_sentence"](mark, first, last, True)},
-    "doubt ends with its call": {"program.doubtful_bits": doubt_ends_with_call},
-    "doubt of whole frames": {"program.doubtful_bits": doubt_of_whole_frames},
+    "doubt ends with its call":
+        between_calls(lambda begun, left: left._replace(doubtful=0)),
+    "doubt begun anew with each call":
+        between_calls(lambda begun, left: left._replace(doubtful=begun.doubtful)),
+    "doubt of whole frames": doubtful_by(lambda mark, width, count:
+                                         width if count and not mark else 0),
+    "doubt by the count after the frame": doubtful_by(lambda mark, width, count:
+                                                      0 if mark else max(count - width, 0)),
+    "doubt of marked frames too": doubtful_by(lambda mark, width, count: min(width, count)),
+    "doubt of 24 bits for each frame": doubtful_by(lambda mark, width, count: 0 if mark else count),
+    "doubt without the cold start": not_begun_cold("doubtful"),
+    "bits to come without the cold start": not_begun_cold("state"),
+    "bits to come before the last frame": received_from("state", state_before_last),
+    "cold not looked at": told_cold(FRESH),
+    "cold with a count of 23": told_cold(State(0, 0, 23)),
+    "cold with a history of ones": told_cold(State(2**23 - 1, 0, 24)),
+    "cold with the last sign 1": told_cold(State(0, 1, 24)),
+    "cold always": {"program.state_told": lambda words: COLD},
+    "cold in small letters alone": cold_among(lambda words: [w for w in words if w == "cold"]),
+    "cold as the first word alone": cold_among(lambda words: words[:1]),
+    "cold as the last word alone": cold_among(lambda words: words[-1:]),
+    "cold not with BYTES": cold_among(lambda words: [] if any(map(program.is_number, words))
+                                      else words),
+    "cold taken by send": {"program.COMMANDS": commands_with(send=send_with_cold)},
+    "cold not told of": {"program.bytes_wanted": told_of_progress_alone},
+    "five words of receive": receive_taking(4),
+    "seven words of receive": receive_taking(6),
+    "bits to come not said where 0": summed_up(lambda said, got:
+                                               said if got.state.doubtful else said[:-1]),
+    "bits to come not said of no frames": summed_up(lambda said, got:
+                                                    said if got.marks else said[:-1]),
+    "bits to come said where marked alone": summed_up(lambda said, got:
+                                                      said if any(got.marks) else said[:-1]),
+    "bits to come before those in all": summed_up(lambda said, got: [said[0], *said[:0:-1]]),
+    "bits to come after the octets at the end": {"program.say_reception": coming_last},
+    "bits to come always many": {"program.coming_sentence": lambda state:
+                                 f"{state.doubtful} coming bits to distrust"},
+    "bits to come not said at cleardown": failing_with(lambda said: without_word(said, "coming")),
+    "bits to come said last at cleardown": failing_with(lambda said: sorted(
+        said, key=lambda sentence: "coming" in sentence)),
+    "cold not said at cleardown": failing_with(lambda said: [
+        sentence.replace("24 coming", "0 coming") for sentence in said]),
+    "doubt in all not said where 0": summed_up(lambda said, got:
+                                               said if got.doubtful else [said[0], said[-1]]),
+    "doubt in all said always": summed_up(lambda said, got: said if len(said) == 3 else [
+        said[0], "0 bits of good frames doubtful in all", said[-1]]),
+    "doubt in all said where marked alone": summed_up(lambda said, got:
+                                                      said if any(got.marks)
+                                                      else [said[0], said[-1]]),
+    "doubt in all said of marks": summed_up(lambda said, got: [
+        sentence.replace("bits of good frames doubtful in all", "doubtful bits after marked frames")
+        for sentence in said]),
     "19 runs said": {"program.MOST_RUNS": 19},
     "21 runs said": {"program.MOST_RUNS": 21},
     "filled with ones": {"program.octets_for": filled_with_ones},
     "exact not looked at": {"program.frame_count": exact_unread},
     "BYTES not looked at": {"program.bytes_wanted": lambda words: None},
     "first number kept": {"program.bytes_wanted": first_number_kept},
-    "last byte dropped": {"program.data_and_marks": last_byte_dropped},
+    "last byte dropped": received_from("data", full_bytes),
     "CP before the law": {"program.COMMANDS": commands_with(send=cp_before_law)},
     "8 bits a byte": {"program.read_file": lambda octets: cp.read_cp(octets, 8 * len(octets))},
     "whole kbit/s": {"describe.rate": lambda record: frames.frame_bits(record) * 4 // 3},
@@ -2057,7 +2511,7 @@ WRONG_PROGRAMS = {
     "DIL in A-law alone": {"program.send_dil": lambda law, octets: dil.send_dil(A, octets)},
     "progress taken by dil": {"program.COMMANDS":
                               program.COMMANDS | {"dil": (dil_with_progress, 1, 2)}},
-    "version 2": {"program.VERSION": "v91 2"},
+    "version 3": {"program.VERSION": "v91 3"},
     "plan: LAW before K": plan_looking(1),
     "plan: SPACING before LAW": plan_looking(0, 2),
     "plan: CEILING before SPACING": plan_looking(0, 1, 3),
@@ -2184,11 +2638,11 @@ def wrong_programs():
     return f"{len(found)} stopped"
 
 
-GROUPS = (table_1, examples, values, steps, cp_round_trips, demand_3, stored_answers,
-          stored_refusals, stored_coverage, empty_intervals, other_dils, default_dil, wrong_codecs,
-          plan_sizes, plan_least, plan_answers, plan_ranges, plan_largest, stored_plans,
-          wrong_planners, program_round_trips, program_sentences, plan_sentences, pictures,
-          stored_run, wrong_programs)
+GROUPS = (table_1, examples, values, steps, cp_round_trips, demand_3, distrust, other_counts,
+          stored_answers, stored_refusals, stored_coverage, stored_counts, empty_intervals,
+          other_dils, default_dil, wrong_codecs, plan_sizes, plan_least, plan_answers, plan_ranges,
+          plan_largest, stored_plans, wrong_planners, program_round_trips, program_doubts,
+          program_sentences, plan_sentences, pictures, stored_run, wrong_programs)
 
 
 def main():

@@ -3,8 +3,8 @@
 from cases_cp import ALL_FULL, body, in_bytes, noisy, plain, sealed
 from cases_frames import a_frame, possible_marks
 from cp import ONE_AT
-from frames import data_bytes, interval_masks, ucodes_for
-from program import data_and_marks, octets_for
+from frames import FRESH, data_bytes, interval_masks, ucodes_for
+from program import octets_for, reception
 from record import EMPTY, EXAMPLE, FULL_MASK, make
 from samples import Draw, a_record
 from table1 import A, MU, octet_of
@@ -34,7 +34,10 @@ GAPS = make(0, 5, 1, [0, 1, 3, 1, 1, 1],
 SEVEN = make(0, 1, 0, [0, 0, 0, 0, 0, 1], [ucodes((0, 5)), ucodes((0, 6))])
 LACKING = make(0, 1, 0, [1, 0, 0, 0, 0, 2], [ucodes((0, 5)), ucodes((1, 5)), ucodes((0, 6))])
 
+# A frame has 23 bits, one fewer than are doubtful; and just as many.
 UPPER = a_record(Draw(31), 3, 4, most=12)
+EIGHTS = make(0, 4, 0, [0] * 6, [ucodes((0, 7))])
+
 FEW = make(0, 5, 0, [0] * 6, [ucodes((0, 5))])
 HOLLOW = make(0, 5, 0, [0, 0, 1, 0, 0, 0], [FULL_MASK])
 BAD_INDEX = make(0, 1, 0, [0, 1, 6, 0, 0, 0], [ucodes((0, 5))])
@@ -51,6 +54,7 @@ def good_cps():
         "lacking.cp": plain(LACKING),
         "gaps.cp": plain(GAPS),
         "upper.cp": plain(UPPER),
+        "eights.cp": plain(EIGHTS),
         "full.cp": plain(ALL_FULL),
     }
 
@@ -115,7 +119,7 @@ def joined():
     """Data for 1,040 frames under SEVEN whose R is as above."""
     frames = [ucodes_for(interval_masks(SEVEN), r_of_joined(n)) for n in range(1040)]
     line = bytes(octet_of(MU, ucode & 1, ucode) for frame in frames for ucode in frame)
-    return data_and_marks(SEVEN, MU, line)[0]
+    return reception(SEVEN, MU, FRESH, line).data
 
 
 # Octets to be received
@@ -133,6 +137,10 @@ def damaged(draw, record, law, marks):
                     for n, mark in enumerate(marks))
 
 
+# Marks of frames that a receiver reads which begins cold.
+BAD_FIRST, BAD_LATER, BAD_LAST, BAD_ALL = (7, 0, 0), (0, 3, 0), (0, 0, 0, 1), (6, 2)
+
+
 def many_marks(draw, record):
     """Marks of all kinds for 60 frames, which make more runs than are said."""
     marks = possible_marks(record)
@@ -140,15 +148,20 @@ def many_marks(draw, record):
 
 
 def lines_of_octets():
-    """Octets: damaged frames, and some that make no frame."""
+    """Octets: damaged frames, some that make no frame, and a line without its first frame."""
     draw = Draw(33)
-    hello = messages()["hello"]
+    hello, two = messages()["hello"], messages()["two"]
     return {
         "damaged": damaged(draw, EXAMPLE, MU, DAMAGED),
         "many": damaged(draw, GAPS, A, many_marks(draw, GAPS)) + draw.octets(2),
         "ragged": octets_for(EXAMPLE, A, 8, hello) + draw.octets(1),
         "five": draw.octets(5),
         "every": bytes(range(256)),
+        "bad_first": damaged(draw, EXAMPLE, MU, BAD_FIRST),
+        "bad_later": damaged(draw, EXAMPLE, MU, BAD_LATER),
+        "bad_last": damaged(draw, EXAMPLE, MU, BAD_LAST),
+        "bad_all": damaged(draw, EXAMPLE, MU, BAD_ALL),
+        "middle": octets_for(EIGHTS, MU, 10, two)[6:],
     }
 
 
@@ -169,6 +182,7 @@ cp seven.cp
 cp lacking.cp
 cp gaps.cp
 cp upper.cp
+cp eights.cp
 cp full.cp
 
 # CP files that are refused
@@ -216,13 +230,19 @@ send missing.cp m\tu
 send missing.cp xlaw 12
 send missing.cp mu 12
 send example.cp mu exact faster
+send example.cp mu cold
+send missing.cp mu exact COLD
 receive example.cp
-receive example.cp mu 1 2 3
+receive example.cp mu 1 2 3 4
+receive example.cp mu 20 cold progress cold
 receive example.cp xlaw
 receive missing.cp b 20
 receive missing.cp mu exact
 receive example.cp mu 20 bytes
 receive example.cp mu 12x
+receive example.cp mu colder
+receive missing.cp mu cold 20 exact
+receive missing.cp mu 20 cold
 receive example.cp mu -1
 receive example.cp mu 1234567890123456789
 linear
@@ -286,6 +306,7 @@ receive example.cp mu 15 < octets
 receive example.cp mu 30 < octets
 receive example.cp mu 000000000000000030 < octets
 receive example.cp mu 7 15 < octets
+receive example.cp mu 3 7 15 < octets
 receive example.cp mu 0 < octets
 receive example.cp mu 31 < octets > back
 receive example.cp mu 32 < octets > back
@@ -330,6 +351,57 @@ receive third.cp mu < octets > back
 receive full.cp mu < damaged > back
 linear a < back
 
+# A receiver that begins cold: alone, with the other words in any order, and in capitals
+send example.cp mu < hello > octets
+receive example.cp mu cold < octets > back
+linear a < back
+receive example.cp mu 20 cold < octets
+receive example.cp mu cold 20 < octets
+receive example.cp mu COLD 20 < octets
+receive example.cp mu progress cold < octets > back
+receive example.cp mu 20 cold progress < octets
+receive example.cp mu Progress Cold 20 < octets
+receive example.cp mu 7 cold 15 < octets > back
+receive example.cp mu cold cold cold < octets > back
+receive example.cp mu cold 40 < octets > back
+
+# Cold, with nothing to read, too little for a frame, and one frame of 21, 22, 23, 24 and 48 bits
+receive example.cp mu cold < nothing > back
+receive example.cp mu cold 2 < nothing > back
+receive example.cp mu 0 cold < octets > back
+receive example.cp mu cold < five > back
+receive example.cp a cold < ragged > back
+send example.cp mu < newline > octets
+receive example.cp mu cold 1 < octets
+receive example.cp mu cold < octets > back
+send third.cp a < newline > octets
+receive third.cp a cold 1 < octets
+send upper.cp mu < newline > octets
+receive upper.cp mu cold 1 < octets
+send eights.cp a < newline > octets
+receive eights.cp a cold 1 < octets
+send full.cp mu < newline > octets
+receive full.cp mu cold 1 < octets > back
+
+# Marked frames, cold and not: the first, one while bits are doubtful, the last, and all
+receive example.cp mu cold < bad_first > back
+receive example.cp mu cold < bad_later > back
+receive example.cp mu cold < bad_last > back
+receive example.cp mu cold < bad_all > back
+receive example.cp mu < bad_first > back
+receive example.cp mu < bad_later > back
+receive example.cp mu < bad_last > back
+receive example.cp mu < bad_all > back
+receive example.cp mu cold < damaged > back
+receive gaps.cp a cold < many > back
+
+# Cold in the middle of a line: from the second frame on, and all is as sent but the first 24 bits
+receive eights.cp mu cold < middle > back
+linear a < back
+receive eights.cp mu 27 cold < middle > back
+receive eights.cp mu < middle > back
+receive eights.cp a cold < middle > none
+
 # More frames than a call takes: state, runs of marks and doubtful bits go on in the next call
 send example.cp mu < verse > octets
 receive example.cp mu 2808 < octets > back
@@ -337,9 +409,11 @@ send gaps.cp a < back > octets
 receive gaps.cp a 2808 < octets
 send seven.cp mu exact < joined > octets
 receive seven.cp mu 2730 < octets > back
+receive seven.cp mu 2730 cold < octets > none
 receive seven.cp a < octets > none
 send seven.cp mu exact < back > octets
 receive example.cp mu < octets > none
+receive example.cp mu cold < octets > none
 receive lacking.cp mu 2730 < octets > back
 
 # The data just received, sent on: the marks that its frames get tell one data from another
@@ -352,6 +426,10 @@ send cleardown.cp mu < hello > none
 receive cleardown.cp mu < nothing > back
 receive cleardown.cp mu < five > back
 receive cleardown.cp mu < damaged > none
+receive cleardown.cp mu cold < nothing > back
+receive cleardown.cp mu cold < five > back
+receive cleardown.cp mu cold < damaged > none
+receive cleardown.cp a 5 cold progress < damaged > none
 
 # Linear values
 linear mu < every

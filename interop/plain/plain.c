@@ -3,7 +3,7 @@
 
 #include <string.h>
 
-enum { RECORD_BYTES = 105, STATE_BYTES = 5, PLAN_BYTES = 24, HISTORY_BITS = 23, MOST_FRAMES = 1024 };
+enum { RECORD_BYTES = 105, STATE_BYTES = 6, PLAN_BYTES = 24, HISTORY_BITS = 23, MOST_FRAMES = 1024, MOST_DOUBTFUL = 24 };
 
 /* Numbers in bytes, low byte first */
 
@@ -202,13 +202,14 @@ static uint64_t reversed(uint64_t history)
     return past;
 }
 
-static void put_state(uint8_t *state, uint64_t past, unsigned sign)
+static void put_state(uint8_t *state, uint64_t past, unsigned sign, unsigned doubtful)
 {
     put_number(state, 4, reversed(past));
     state[4] = (uint8_t)sign;
+    state[5] = (uint8_t)doubtful;
 }
 
-/* Refusals 4, 9 to 15 and 25, and 16 before them for a short record or state. */
+/* Refusals 4, 9, 10, 25, 11 to 14, 18 and 15, in this order, and 16 before them for a short record or state. */
 static uint32_t call_refusal(struct record *r, const uint8_t *record, size_t record_len,
                              size_t frames, const uint8_t *state, size_t state_len)
 {
@@ -222,6 +223,8 @@ static uint32_t call_refusal(struct record *r, const uint8_t *record, size_t rec
         return 13;
     if (get_number(state, 4) >> HISTORY_BITS)
         return 14;
+    if (state[5] > MOST_DOUBTFUL)
+        return 18;
     if (frames > MOST_FRAMES)
         return 15;
     return 0;
@@ -323,7 +326,7 @@ uint32_t plain_send(const uint8_t *record, size_t record_len, bool a_law, size_t
         }
     }
     if (frames > 0)
-        put_state(state, past, sign);
+        put_state(state, past, sign, state[5]);
     return 0;
 }
 
@@ -354,7 +357,7 @@ uint32_t plain_receive(const uint8_t *record, size_t record_len, bool a_law, siz
     }
 
     uint64_t past = reversed(get_number(state, 4)), held = 0;
-    unsigned sign = state[4] != 0, holds = 0;
+    unsigned sign = state[4] != 0, holds = 0, doubtful = state[5];
     for (size_t n = 0; n < frames; n++) {
         uint64_t number = 0, data = 0;
         unsigned signs = 0;
@@ -370,8 +373,11 @@ uint32_t plain_receive(const uint8_t *record, size_t record_len, bool a_law, siz
             mark = 7;
         uint64_t line = mark ? 0 : ((signs ^ (signs << 1 | sign)) & 63) | number << 6;
         data = descramble(&past, line, width);
-        if (mark)
+        if (mark) {
             data = 0;
+            doubtful = MOST_DOUBTFUL;
+        } else
+            doubtful = doubtful > width ? doubtful - width : 0;
         sign = octets[5] >> 7;
         octets += 6;
         *marks++ = mark;
@@ -384,7 +390,7 @@ uint32_t plain_receive(const uint8_t *record, size_t record_len, bool a_law, siz
     if (holds)
         *bits = (uint8_t)held;
     if (frames > 0)
-        put_state(state, past, sign);
+        put_state(state, past, sign, doubtful);
     return 0;
 }
 

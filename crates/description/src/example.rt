@@ -91,6 +91,19 @@ fn add_bits(text: &mut [u8], at: usize, bytes: &[u8], marks: &[u8]) -> usize
     )
 }
 
+// Receives three frames of octets from the fresh state on.
+fn receive_three(octets: &[u8], bytes: &mut [u8], marks: &mut [u8]) {
+    codec::receive(
+        example_record(),
+        Law::Mu,
+        3,
+        fresh_state(),
+        octets,
+        bytes,
+        marks,
+    );
+}
+
 // Adds a title, three frames of octets and what is received of them; `bytes` and `marks` then hold it.
 fn add_received(
     text: &mut [u8],
@@ -104,15 +117,7 @@ fn add_received(
     ensures { λ end. ⌜ end ≤ length (now (text .entry)) ⌝ }
 {
     let at = add_octets(text, at, title, octets);
-    codec::receive(
-        example_record(),
-        Law::Mu,
-        3,
-        fresh_state(),
-        octets,
-        bytes,
-        marks,
-    );
+    receive_three(octets, bytes, marks);
     add_bits(text, at, bytes, marks)
 }
 

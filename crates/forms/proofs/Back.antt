@@ -48,11 +48,11 @@ bytes-hold s p n w e h =
 pub state-back : StateBack
 unfolding stateAt stateBytes stateByte
 state-back st t h =
-    ap₂ (λ (x : ℕ) (b : Bool). record { history = x; sign = b })
-    (bytes-hold (stateBytes st ++ t) 0 4 (st .history)
-    (λ q l. ap (λ (x : ℕ). getD (stateBytes st ++ t) x 0) (zero-add q) ∙ listed-at (stateByte st) 5 t q (omega arith)
-    ∙ rw (lt-ltb q 4 l) refl) h)
-    (ap positive (listed-at (stateByte st) 5 t 4 (lit< tt)) ∙ positive-weight (st .sign))
+    let byte = listed-at (stateByte st) 6 t in
+    let history = bytes-hold (stateBytes st ++ t) 0 4 (st .history)
+    (λ q l. ap (λ (x : ℕ). getD (stateBytes st ++ t) x 0) (zero-add q) ∙ byte q (omega arith) ∙ rw (lt-ltb q 4 l) refl) h in
+    let sign = ap positive (byte 4 (lit< tt)) ∙ positive-weight (st .sign) in
+    rw (history, sign, byte 5 (lit< tt)) refl
 
 module _ (r : Record) (t : List ℕ) where
   abbrev s : List ℕ

@@ -20,7 +20,7 @@ ghost use Rattle.forms.specs.PlanBytes.{planLength, planBytes};
 pub const RECORD_BYTES: usize = 105;
 
 // The bytes of a line state.
-pub const STATE_BYTES: usize = 5;
+pub const STATE_BYTES: usize = 6;
 
 // The bytes of a plan.
 pub const PLAN_BYTES: usize = 24;
@@ -47,6 +47,7 @@ fn code_of_refusal(x: Refusal) -> u32
         Refusal::TooManyFrames => 15,
         Refusal::InputTooShort => 16,
         Refusal::OutputTooShort => 17,
+        Refusal::DoubtfulTooLarge => 18,
         Refusal::IntervalEmpty(i) => 25 + 0x100_0000 * (i as u32),
         Refusal::RateOrSpacingOutside => 26,
         Refusal::NoMask => 27,
@@ -133,7 +134,7 @@ pub fn record_into(r: Record, bytes: &mut [u8])
     }
 }
 
-// The line state in the first 5 bytes.
+// The line state in the first 6 bytes.
 pub fn state_from(bytes: &[u8]) -> LineState
     requires { ⌜ stateLength ≤ length (now bytes) ⌝ }
     ensures { λ r. ⌜ r ≡ stateAt (now (bytes .entry)) ⌝ }
@@ -141,6 +142,7 @@ pub fn state_from(bytes: &[u8]) -> LineState
     LineState {
         history: bits::field_at(bytes, 0, 32) as u32,
         sign: bytes[4] != 0,
+        doubtful: bytes[5],
     }
 }
 
@@ -152,10 +154,13 @@ fn state_byte(s: LineState, k: usize) -> u8
     if k < 4 {
         return ((s.history >> (8 * k)) % 256) as u8;
     }
-    s.sign as u8
+    if k < 5 {
+        return s.sign as u8;
+    }
+    s.doubtful
 }
 
-// Puts a line state into the first 5 bytes; the others stay.
+// Puts a line state into the first 6 bytes; the others stay.
 pub fn state_into(s: LineState, bytes: &mut [u8])
     requires { ⌜ stateLength ≤ length (now bytes) ⌝ }
     ensures { λ x. ⌜ now (bytes .exit) ≡ over (stateBytes s) (now (bytes .entry)) ⌝ }

@@ -20,7 +20,7 @@ use Rattle.standard.specs.Constellation.{member, label, sizes}
 use Rattle.standard.specs.Modulus.{number}
 use Rattle.standard.specs.Signs.{signBits}
 use Rattle.standard.specs.Frame.{outsideTest, outsideTests, signAt, ucodeAt, receivedNumber, markTests, mark, good, heardBits, receiveFrame}
-use Rattle.standard.specs.Frame.{receiveNext}
+use Rattle.standard.specs.Frame.{doubtfulAfter, receiveNext}
 use Rattle.standard.specs.declared.Law.{Law}
 use Rattle.standard.specs.declared.LineState.{LineState}
 use Rattle.standard.specs.declared.Record.{Record}
@@ -38,6 +38,12 @@ use Rattle.frame.specs.declared.Carried.{Carried}
 use Rattle.coding.specs.Past.{turned}
 use Rattle.frame.specs.Parts.{stateOf, labelIn, noneTest}
 use Rattle.coding.proofs.Stream.{turned-lt, from-past}
+
+-- a line state is its three parts
+same-state : (s t : LineState) → s .history ≡ t .history → s .sign ≡ t .sign → s .doubtful ≡ t .doubtful → s ≡ t
+same-state s t eh es ed =
+    ap₂ (λ (h : ℕ) (g : Bool). record { history = h; sign = g; doubtful = s .doubtful }) eh es
+    ∙ ap (λ (d : ℕ). record { history = t .history; sign = t .sign; doubtful = d }) ed
 
 -- ---- the number of six labels, from label 5 down to label 0
 
@@ -153,13 +159,14 @@ module _ (r : Record) (l : Law) (os : List ℕ) where
       bad = ne-eqb (mark r l os) 0 (λ (e : mark r l os ≡ 0). omega arith)
 
       pub marked-next : (m : Mapping) → m ≡ mappingOf r → (y : Carried) → y .past ≡ turned (pushAll (st .history) (replicate (m .d) false))
-          → y .sign ≡ signAt os 5
+          → y .sign ≡ signAt os 5 → y .doubtful ≡ doubtfulAfter (m .d) false (x .doubtful)
           → stateOf y ≡ receiveNext r l st os
       unfolding receiveNext heardBits
-      marked-next m em y ep es =
+      marked-next m em y ep es ed =
           let pushed = from-past (st .history) (y .past) (replicate (m .d) false) (turned-lt (x .past)) ep in
           let zeros = ap (λ (z : Mapping). pushAll (st .history) (replicate (z .d) false)) em in
-          rw bad (ap₂ (λ (h : ℕ) (s : Bool). record { history = h; sign = s }) (pushed ∙ zeros) es)
+          let doubtful = ed ∙ ap (λ (z : Mapping). doubtfulAfter (z .d) false (x .doubtful)) em in
+          rw bad (same-state (stateOf y) _ (pushed ∙ zeros) es doubtful)
 
       pub marked-number : 0 ≡ numberOf (receiveFrame r l st os)
       unfolding receiveFrame
@@ -198,9 +205,12 @@ module _ (r : Record) (l : Law) (os : List ℕ) where
       unfolding receiveFrame
       heard-data = rw fine
 
-      pub heard-next : (y : Carried) → y .past ≡ turned (pushAll (st .history) (heardBits r l (st .sign) os)) → y .sign ≡ signAt os 5
+      pub heard-next : (m : Mapping) → m ≡ mappingOf r → (y : Carried)
+          → y .past ≡ turned (pushAll (st .history) (heardBits r l (st .sign) os)) → y .sign ≡ signAt os 5
+          → y .doubtful ≡ doubtfulAfter (m .d) true (x .doubtful)
           → stateOf y ≡ receiveNext r l st os
       unfolding receiveNext
-      heard-next y ep es =
-          ap₂ (λ (h : ℕ) (s : Bool). record { history = h; sign = s })
-          (from-past (st .history) (y .past) (heardBits r l (st .sign) os) (turned-lt (x .past)) ep) es
+      heard-next m em y ep es ed =
+          let doubtful = ed ∙ ap (λ (z : Mapping). doubtfulAfter (z .d) true (x .doubtful)) em
+          ∙ ap (λ (b : Bool). doubtfulAfter (D r) b (x .doubtful)) (sym fine) in
+          same-state (stateOf y) _ (from-past (st .history) (y .past) (heardBits r l (st .sign) os) (turned-lt (x .past)) ep) es doubtful

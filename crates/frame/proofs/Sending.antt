@@ -100,9 +100,9 @@ module _ (r : Record) (l : Law) (m : Mapping) (vs : List ℕ) (ps : List (List �
           ∙ listFrom-ext (octetIn l ps cs n) (λ i. octet l (nth (frameSigns (st .sign) ss) i) (point r i (getD (frameLabels r ss) i 0))) 6
           (λ i h. ap₂ (octet l) (sign-is i h) (ucode-is i h))
 
-      pub sent-state : (t : Bool) → t ≡ bit n 5 → stateOf (record { past = q; sign = t }) ≡ sendNext st ds
+      pub sent-state : (t : Bool) → t ≡ bit n 5 → stateOf (record { past = q; sign = t; doubtful = x .doubtful }) ≡ sendNext st ds
       unfolding sendNext lineBits
       sent-state t et =
           let pushed = from-past (st .history) q (scramble (st .history) (bitsOf (m .d) word)) (turned-lt (x .past)) (sent .left) in
-          ap₂ (λ (y : ℕ) (z : Bool). record { history = y; sign = z }) (pushed ∙ ap (pushAll (st .history)) same-bits)
-          (et ∙ sign-is 5 (omega arith))
+          ap₂ (λ (y : ℕ) (z : Bool). record { history = y; sign = z; doubtful = x .doubtful })
+          (pushed ∙ ap (pushAll (st .history)) same-bits) (et ∙ sign-is 5 (omega arith))

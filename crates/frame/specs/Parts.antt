@@ -23,7 +23,7 @@ use Rattle.coding.specs.Reciprocals.{reciprocalOf}
 
 -- the line state that is carried
 abbrev pub stateOf : Carried → LineState
-stateOf x = record { history = turned (x .past); sign = x .sign }
+stateOf x = record { history = turned (x .past); sign = x .sign; doubtful = x .doubtful }
 
 -- The functions of a frame have no record. Their contracts ask that K, D, sizes and table are drawn up of some record, and speak of each
 -- such record.

@@ -25,15 +25,16 @@ ghost use Rattle.standard.specs.Bits.{numberOf, bitsOf};
 ghost use Rattle.standard.specs.Record.{D};
 ghost use Rattle.standard.specs.Scrambler.{pushAll};
 ghost use Rattle.standard.specs.Modulus.{number as numberIn};
-ghost use Rattle.standard.specs.Frame.{sendFrame, sendNext, mark as markOf, receiveFrame, receiveNext};
+ghost use Rattle.standard.specs.Frame.{sendFrame, sendNext, mark as markOf, receiveFrame, doubtfulAfter, receiveNext};
 ghost use Rattle.standard.specs.declared.Record.{Record};
 ghost use Rattle.coding.specs.Past.{turned};
 ghost use Rattle.frame.specs.Parts.{stateOf, Sendable, Receivable, octetIn, labelIn, noneTest};
 
-// A line state on its way through a call: its history in the order of time, and the last sign.
+// A line state on its way through a call: its history in the order of time, the last sign, and how many coming data bits are doubtful.
 pub struct Carried {
     pub past: u32,
     pub sign: bool,
+    pub doubtful: u8,
 }
 
 // A frame received: its mark, the state left, and its D data bits.
@@ -51,16 +52,18 @@ pub fn carry(state: LineState) -> Carried
     Carried {
         past: turn(state.history),
         sign: state.sign,
+        doubtful: state.doubtful,
     }
 }
 
 // The line state that is carried.
-pub fn state_of(line: Carried) -> LineState
-    ensures { λ x. ⌜ x ≡ stateOf line ⌝ }
+pub fn state_of(carried: Carried) -> LineState
+    ensures { λ x. ⌜ x ≡ stateOf carried ⌝ }
 {
     LineState {
-        history: turn(line.past),
-        sign: line.sign,
+        history: turn(carried.past),
+        sign: carried.sign,
+        doubtful: carried.doubtful,
     }
 }
 
@@ -101,6 +104,7 @@ pub fn send_frame(
     Carried {
         past: sent.past,
         sign: bit_of(signs, 5),
+        doubtful: line.doubtful,
     }
 }
 
@@ -147,16 +151,30 @@ fn number_of(sizes: [u64; 6], found: [u8; 6]) -> u64
     number
 }
 
+// How many coming data bits are doubtful after a frame of so many bits, good or marked, where so many are before it.
+pub fn doubtful_after(width: usize, good: bool, before: u8) -> u8
+    ensures { λ x. ⌜ x ≡ doubtfulAfter width good before ⌝ }
+{
+    if !good {
+        return 24;
+    }
+    if before as usize <= width {
+        return 0;
+    }
+    before - width as u8
+}
+
 // A marked frame: zero data bits, and as many zeros into the history. `sign` is the sign of its sixth octet.
 fn marked_frame(width: usize, line: Carried, sign: bool, mark: u8) -> FrameReceived
     requires { ⌜ (20 ≤ width) × (width ≤ 48) × (line .past < 2 ^ 23) ⌝ }
     ensures { λ x. ⌜ (x .mark ≡ mark) × (x .line .past ≡ turned (pushAll (stateOf line .history) (replicate width false)))
-        × (x .line .sign ≡ sign) × (x .bits ≡ 0) ⌝ }
+        × (x .line .sign ≡ sign) × (x .line .doubtful ≡ doubtfulAfter width false (line .doubtful)) × (x .bits ≡ 0) ⌝ }
 {
     let zeros = past_after(line.past, 0, width);
     let left = Carried {
         past: zeros,
         sign: sign,
+        doubtful: doubtful_after(width, false, line.doubtful),
     };
     FrameReceived {
         mark: mark,
@@ -198,6 +216,7 @@ pub fn receive_frame(
     let left = Carried {
         past: plain.past,
         sign: sign,
+        doubtful: doubtful_after(width, true, line.doubtful),
     };
     FrameReceived {
         mark: 0,

@@ -13,13 +13,13 @@ use console::is_well;
 use console::moved;
 use console::read_some;
 use console::tell_text;
+use frame::doubtful_after;
 use standard::Law;
 use standard::LineState;
 use standard::Record;
 use std::num::wrapping_add_u64;
 use std::num::wrapping_sub_u64;
 use streams::Report;
-use streams::fresh_state;
 use words::add_choice;
 ghost use mathlib.Core.Path.{_≡_};
 ghost use Prim.Native.Nat.{_*_, _<_, _≤_};
@@ -109,24 +109,27 @@ fn end_run(e: Ends, t: Told, mark: u8, after: bool) -> Told {
     }
 }
 
-// Notes the mark of a frame of so many bits.
-fn note(e: Ends, before: Told, mark: u8, width: u64) -> Told {
+// Notes the mark of a frame of so many bits, before which so many coming ones are doubtful.
+fn note(e: Ends, before: Told, width: u64, coming: u8, mark: u8) -> Told {
     let t = end_run(e, before, mark, mark == 0);
     let meter = t.meter;
     Told {
-        report: streams::note(t.report, mark, width),
+        report: streams::note(t.report, width, coming, mark),
         told: t.told,
         untold: t.untold,
         meter,
     }
 }
 
-// Notes the marks of frames.
-fn note_all(e: Ends, before: Told, marks: &[u8], width: u64) -> Told {
+// Notes the marks of frames of so many bits, before which so many coming ones are doubtful.
+fn note_all(e: Ends, before: Told, width: usize, coming: u8, marks: &[u8]) -> Told {
     let mut t = before;
+    let mut doubtful = coming;
     let mut i = 0;
     while i < marks.len() {
-        t = note(e, t, marks[i], width);
+        let mark = marks[i];
+        t = note(e, t, width as u64, doubtful, mark);
+        doubtful = doubtful_after(width, mark == 0, doubtful);
         i += 1;
     }
     t
@@ -202,6 +205,7 @@ fn after_frames(
     ensures { λ x. ⌜ x .held < 8 ⌝ }
 {
     let held = s.held;
+    let before = s.state;
     let bits = bits_of(frames, width);
     let total = held + bits;
     let count = at_most(total / 8, s.wanted);
@@ -212,7 +216,7 @@ fn after_frames(
         waiting: s.waiting,
         last: streams::byte_at(bytes, bits),
         held: total % 8,
-        told: note_all(e, s.told, &marks[0..frames], width as u64),
+        told: note_all(e, s.told, width, before.doubtful, &marks[0..frames]),
         wanted,
         more: (wanted != 0) & is_well(trouble),
         trouble,
@@ -300,8 +304,8 @@ fn receive_some(e: Ends, r: Record, law: Law, shows: bool, s: Stream, octets: &m
     waits(e, shows, next, left, count)
 }
 
-// A stream that begins.
-fn begin(wanted: u64) -> Stream
+// A stream that begins in a line state.
+fn begin(state: LineState, wanted: u64) -> Stream
     ensures { λ x. ⌜ (x .waiting ≡ 0) × (x .held ≡ 0) ⌝ }
 {
     let report = Report {
@@ -310,7 +314,6 @@ fn begin(wanted: u64) -> Stream
         mark: 0,
         first: 0,
         doubtful: 0,
-        coming: 0,
     };
     let told = Told {
         report,
@@ -319,7 +322,7 @@ fn begin(wanted: u64) -> Stream
         meter: begun(),
     };
     Stream {
-        state: fresh_state(),
+        state,
         waiting: 0,
         last: 0,
         held: 0,
@@ -332,11 +335,11 @@ fn begin(wanted: u64) -> Stream
 
 // Receives call after call until the input ends or enough was received. A proved loop has to end, so this one counts down from a number
 // that no run uses up.
-fn receive_all(e: Ends, r: Record, law: Law, wanted: u64, shows: bool) -> Stream
+fn receive_all(e: Ends, r: Record, law: Law, state: LineState, wanted: u64, shows: bool) -> Stream
     ensures { λ x. ⌜ (x .waiting < 6) × (x .held < 8) ⌝ }
 {
     let mut octets = [0u8; 6144];
-    let mut s = begin(wanted);
+    let mut s = begin(state, wanted);
     let mut turns = u64::MAX;
     while turns > 0 && s.more {
         s = receive_some(e, r, law, shows, s, &mut octets);
@@ -345,11 +348,13 @@ fn receive_all(e: Ends, r: Record, law: Law, wanted: u64, shows: bool) -> Stream
     s
 }
 
-// What was received: what the marks come to, how many runs of marked frames were not told, the octets at the end that make no frame, the
-// bits in a last byte that is not full, the bytes of data still wanted, and what ended it before the input did.
+// What was received: what the marks come to, how many runs of marked frames were not told, how many coming bits are doubtful, the octets at
+// the end that make no frame, the bits in a last byte that is not full, the bytes of data still wanted, and what ended it before the input
+// did.
 pub struct Received {
     pub report: Report,
     pub untold: u64,
+    pub coming: u8,
     pub waiting: usize,
     pub held: usize,
     pub wanted: u64,
@@ -364,10 +369,12 @@ fn sum_up(e: Ends, s: Stream, held: usize, last: Trouble) -> Received
     let told = end_run(e, s.told, 0, false);
     closed(e, told.meter);
     let report = told.report;
+    let state = s.state;
     let trouble = s.trouble;
     Received {
         report,
         untold: told.untold,
+        coming: state.doubtful,
         waiting: s.waiting,
         held,
         wanted: wrapping_sub_u64(s.wanted, (held != 0) as u64),
@@ -389,10 +396,17 @@ fn finish(e: Ends, s: Stream) -> Received
     sum_up(e, s, held, last)
 }
 
-// Receives the input to the output, frame after frame, up to so many bytes of data.
-pub fn receive_stream(e: Ends, r: Record, law: Law, wanted: u64, shows: bool) -> Received
+// Receives the input to the output, frame after frame from a line state on, up to so many bytes of data.
+pub fn receive_stream(
+    e: Ends,
+    r: Record,
+    law: Law,
+    state: LineState,
+    wanted: u64,
+    shows: bool,
+) -> Received
     ensures { λ x. ⌜ (x .waiting < 6) × (x .held < 8) ⌝ }
 {
-    let s = receive_all(e, r, law, wanted, shows);
+    let s = receive_all(e, r, law, state, wanted, shows);
     finish(e, s)
 }

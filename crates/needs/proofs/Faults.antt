@@ -27,7 +27,7 @@ module _ (r : Record) (st : LineState) (n : ℕ) (o : Outcome) (q : o ≡ Done)
 
   pub frames-passed : n ≤ 1024
   unfolding lineTests tooManyFrames
-  frames-passed = ltb-false 1024 n (none-split (recordTests r) (lineTests r st n) none .1 .1 .1 .0)
+  frames-passed = ltb-false 1024 n (none-split (recordTests r) (lineTests r st n) none .1 .1 .1 .1 .0)
 
 -- its tests, and then those of the buffers, which are looked at where it is not refused
 pub then-buffers : (r : Record) (st : LineState) (n : ℕ) (o : Outcome) {a : Answer} (us vs : List Test)

@@ -19,7 +19,7 @@ fn data_bytes(width: usize, frames: usize) -> usize
     (frames * width + 7) / 8
 }
 
-// Refusals 13 to 15.
+// Refusals 13, 14, 18 and 15.
 fn line_fault(r: Record, state: LineState, frames: usize) -> Outcome
     ensures { λ x. ⌜ outcomeAnswer x ≡ first (lineTests r state frames) ⌝ }
 {
@@ -29,13 +29,16 @@ fn line_fault(r: Record, state: LineState, frames: usize) -> Outcome
     if 0x80_0000 <= state.history {
         return Outcome::Refused(Refusal::HistoryTooLarge);
     }
+    if 24 < state.doubtful {
+        return Outcome::Refused(Refusal::DoubtfulTooLarge);
+    }
     if 1024 < frames {
         return Outcome::Refused(Refusal::TooManyFrames);
     }
     Outcome::Done
 }
 
-// Refusals 4, 9, 10, 25 and 11 to 15.
+// Refusals 4, 9, 10, 25, 11 to 14, 18 and 15.
 fn call_fault(r: Record, state: LineState, frames: usize) -> Outcome
     ensures { λ x. ⌜ outcomeAnswer x ≡ first (recordTests r ++ lineTests r state frames) ⌝ }
 {
@@ -53,7 +56,7 @@ pub struct Needed {
     pub octets: usize,
 }
 
-// What a call of so many frames needs, or refusals 4, 9, 10, 25 and 11 to 15.
+// What a call of so many frames needs, or refusals 4, 9, 10, 25, 11 to 14, 18 and 15.
 pub fn needed_by(r: Record, state: LineState, frames: usize) -> Needed
     ensures { λ x. ⌜ NeededBy r state frames x ⌝ }
 {

@@ -1,12 +1,13 @@
 -- Laws of the first test that applies. Assumes nothing.
 use mathlib.Core.Path.{_≡_, refl, sym, ap, _∙_}
 use Prim.Native.Nat.{ℕ, zero, suc, _+_, _-_, _≤_, _<_}
-use mathlib.Core.Bool.{Bool, true, false, cond, _&&_}
+use mathlib.Core.Bool.{Bool, true, false, true≢false, cond, _&&_, _||_}
 use mathlib.Core.List.{List, [], _∷_, _++_}
 use native.Mathlib.Nat.{not-suc-le-zero, add-zero, add-suc, suc-add, zero-lt-suc}
 use native.Mathlib.Numerals.{add-one}
 use native.Mathlib.Omega.{arith}
-use lib.Dec.{T, ltb, ltb→lt}
+use borrow.Author.Tests.{eqb-false}
+use lib.Dec.{T, eqb, ltb, ltb→lt}
 use lib.ListN.{length, getD}
 use Rattle.standard.specs.Lists.{listFrom}
 use Rattle.standard.specs.First.{Answer, bare, valued, Test, valuedTest, first}
@@ -100,6 +101,23 @@ module _ (f : ℕ → Test) (n : ℕ) where
   -- the lowest that applies answers
   pub first-lowest : (i : ℕ) → i < n → f i .applies ≡ true → ((k : ℕ) → k < i → f k .applies ≡ false) → first (listFrom f 0 n) ≡ f i .answer
   first-lowest i h e p = turns-past i (omega arith) p ∙ turn-hit i h e
+
+-- a test of the number n applies
+abbrev pub says : ℕ → List Test → Bool
+says n [] = false
+says n (t ∷ ts) = (eqb (t .answer .number) n && t .applies) || says n ts
+
+-- only then is n answered
+pub first-says : (n : ℕ) (ts : List Test) → 0 < n → says n ts ≡ false → first ts .number ≡ n → ⊥
+unfolding first
+first-says n [] h s e = omega arith
+first-says n (t ∷ ts) h s e = go (first-says n ts h) (t .applies) refl (eqb (t .answer .number) n) refl
+  where
+    go : (says n ts ≡ false → first ts .number ≡ n → ⊥) → (b : Bool) → t .applies ≡ b → (c : Bool) → eqb (t .answer .number) n ≡ c → ⊥
+    go ih true q true k = true≢false (rw (q, k) at s)
+    go ih true q false k = eqb-false (t .answer .number) n k (rw q at e)
+    go ih false q true k = ih (rw (q, k) at s) (rw q at e)
+    go ih false q false k = ih (rw (q, k) at s) (rw q at e)
 
 -- a list of tests of which none applies is passed over
 pub first-append : (ts us : List Test) → None ts → first (ts ++ us) ≡ first us

@@ -1,6 +1,6 @@
 -- Laws of a data frame, there and back, and of N frames. Assumes nothing.
 use mathlib.Core.Path.{_≡_, refl, sym, ap, _∙_}
-use Prim.Native.Nat.{ℕ, _+_, _*_, _^_, _≤_, _<_}
+use Prim.Native.Nat.{ℕ, _+_, _*_, _-_, _^_, _≤_, _<_}
 use mathlib.Core.Bool.{Bool, true, false, cond, not}
 use mathlib.Core.List.{List, [], _∷_, _++_, map-append}
 use native.Mathlib.Nat.{le-trans, zero-add}
@@ -19,8 +19,8 @@ use Rattle.standard.specs.Modulus.{product, number}
 use Rattle.standard.specs.Signs.{signsOf, signBits}
 use Rattle.standard.specs.Octets.{octet, signOf, ucodeOf}
 use Rattle.standard.specs.Frame.{lineBits, frameSigns, frameLabels, frameOctets, sendFrame, sendNext, signAt, ucodeAt, receivedNumber}
-use Rattle.standard.specs.Frame.{outsideTest, outsideTests, markTests, mark, good, heardBits, receiveFrame, receiveNext, sendFrames}
-use Rattle.standard.specs.Frame.{sendAfter, receiveFrames, receiveMarks, receiveAfter}
+use Rattle.standard.specs.Frame.{outsideTest, outsideTests, markTests, mark, good, heardBits, receiveFrame, doubtfulAfter, receiveNext}
+use Rattle.standard.specs.Frame.{sendFrames, sendAfter, receiveFrames, receiveMarks, receiveAfter}
 use Rattle.standard.specs.declared.Law.{Law}
 use Rattle.standard.specs.declared.LineState.{LineState}
 use Rattle.standard.specs.declared.Record.{Record}
@@ -67,6 +67,12 @@ pub sign-bits-across : (r : Record) (l : Law) (st : LineState) (os : List ℕ) (
 unfolding receiveNext listFrom nth
 sign-bits-across r l st os ts = sym (bits-append (st .sign) (listFrom (signAt os) 0 6) ts 5 refl)
 
+-- ---- A.1: the sender's count
+
+pub send-doubtful : (st : LineState) (ds : List Bool) → sendNext st ds .doubtful ≡ st .doubtful
+unfolding sendNext
+send-doubtful st ds = refl
+
 -- ---- marks
 
 module _ (r : Record) (l : Law) (os : List ℕ) where
@@ -105,6 +111,22 @@ module _ (r : Record) (l : Law) (os : List ℕ) where
       ≡ pushAll (st .history) (replicate (D r) false)
   unfolding receiveNext heardBits
   marked-history st e = rw e
+
+  -- A.1: the count after a marked frame and after a good one; it stays 24 at most
+  pub marked-doubtful : (st : LineState) → good r l os ≡ false → receiveNext r l st os .doubtful ≡ 24
+  unfolding receiveNext doubtfulAfter
+  marked-doubtful st e = rw e
+
+  pub good-doubtful : (st : LineState) → good r l os ≡ true → receiveNext r l st os .doubtful ≡ st .doubtful - D r
+  unfolding receiveNext doubtfulAfter
+  good-doubtful st e = rw e
+
+  pub doubtful-le : (st : LineState) → st .doubtful ≤ 24 → receiveNext r l st os .doubtful ≤ 24
+  doubtful-le st h = go (good r l os) refl
+    where
+      go : (b : Bool) → good r l os ≡ b → receiveNext r l st os .doubtful ≤ 24
+      go true e = omega (arith, good-doubtful st e)
+      go false e = omega (arith, marked-doubtful st e)
 
 -- ---- six octets of D bits, received
 

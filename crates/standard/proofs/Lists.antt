@@ -255,6 +255,15 @@ module _ {X : Type 0} where
   joined-parts k (suc n) xs e =
       ap (λ (r : List X). take k xs ++ r) (joined-parts k n (drop k xs) (omega (arith, length-drop k xs))) ∙ take-append-drop k xs
 
+  -- the parts of parts of one length, end to end, are the first of them
+  pub parts-joined : (k n : ℕ) (xs : List (List X)) → Sized k xs → n ≤ length xs → parts k n (joined xs) ≡ take n xs
+  unfolding parts joined
+  parts-joined k zero xs p h = refl
+  parts-joined k (suc n) [] p h = absurd (not-suc-le-zero h)
+  parts-joined k (suc n) (x ∷ xs) p h =
+      ap₂ _∷_ (take-at x (joined xs) k (p .0))
+      (ap (parts k n) (drop-at x (joined xs) k (p .0)) ∙ parts-joined k n xs (p .1) (omega arith))
+
   -- one part more
   pub parts-snoc : (k n : ℕ) (xs : List X) → parts k (n + 1) xs ≡ parts k n xs ++ (take k (drop (n * k) xs) ∷ [])
   unfolding parts
@@ -281,6 +290,12 @@ module _ {S F : Type 0} (next : S → F → S) where
   unfolding after
   after-append st [] b = refl
   after-append st (f ∷ a) b = after-append (next st f) a b
+
+  -- what each step keeps, all of them keep
+  pub after-keeps : (P : S → Type 0) → ((st : S) (f : F) → P st → P (next st f)) → (st : S) (fs : List F) → P st → P (after next st fs)
+  unfolding after
+  after-keeps P keeps st [] p = p
+  after-keeps P keeps st (f ∷ fs) p = after-keeps P keeps (next st f) fs (keeps st f p)
 
 -- what each gives has one length
 pub sized-each : {S F Y : Type 0} (out : S → F → List Y) (next : S → F → S) (v : ℕ) → ((st : S) (f : F) → length (out st f) ≡ v)

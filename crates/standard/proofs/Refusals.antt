@@ -18,14 +18,14 @@ use Rattle.standard.specs.Cp.{within}
 use Rattle.standard.specs.Constellation.{size, sizes}
 use Rattle.standard.specs.Modulus.{product}
 use Rattle.standard.specs.Refusals.{indexTooLarge, drnTooLarge, grantedBelowFullRate, intervalEmpty, productTooSmall}
-use Rattle.standard.specs.Refusals.{maskAboveIndices, framesAtCleardown, historyTooLarge, tooManyFrames, emptyTest, emptyTests}
-use Rattle.standard.specs.Refusals.{rateTests, recordTests, readTests, writeTests, lineTests, bufferTests, frameTests, planTests}
+use Rattle.standard.specs.Refusals.{maskAboveIndices, framesAtCleardown, historyTooLarge, doubtfulTooLarge, tooManyFrames, emptyTest}
+use Rattle.standard.specs.Refusals.{emptyTests, rateTests, recordTests, readTests, writeTests, lineTests, bufferTests, frameTests, planTests}
 use Rattle.standard.specs.Calls.{accepted}
 use Rattle.standard.specs.declared.Law.{Law}
 use Rattle.standard.specs.declared.LineState.{LineState}
 use Rattle.standard.specs.declared.Record.{Record}
 use Rattle.standard.proofs.Lists.{any-none, none-any, largest-lt}
-use Rattle.standard.proofs.First.{numbered, first-skip, first-left, none-first, none-at, first-lowest}
+use Rattle.standard.proofs.First.{numbered, first-skip, first-left, first-says, none-first, none-at, first-lowest}
 use Rattle.standard.proofs.Modulus.{product-zero}
 use Rattle.standard.proofs.Frame.{Holds, length-sizes, size-at}
 
@@ -147,6 +147,7 @@ pub record Passed (r : Record) (st : LineState) (n : ℕ) (readShort writeShort 
   pub masks : maskAboveIndices r ≡ false
   pub rated : framesAtCleardown r n ≡ false
   pub history : historyTooLarge st ≡ false
+  pub doubtful : doubtfulTooLarge st ≡ false
   pub few : tooManyFrames n ≡ false
   pub enough : readShort ≡ false
   pub room : writeShort ≡ false
@@ -165,10 +166,18 @@ passed r st n readShort writeShort e =
       masks = at 10 (lit< tt);
       rated = at 11 (lit< tt);
       history = at 12 (lit< tt);
-      few = at 13 (lit< tt);
-      enough = at 14 (lit< tt);
-      room = at 15 (lit< tt);
+      doubtful = at 13 (lit< tt);
+      few = at 14 (lit< tt);
+      enough = at 15 (lit< tt);
+      room = at 16 (lit< tt);
     }
+
+-- A.1: a call in a state whose count is 24 at most does not get 18
+pub not-eighteen : (r : Record) (st : LineState) (n : ℕ) (readShort writeShort : Bool) → st .doubtful ≤ 24
+    → first (frameTests r st n readShort writeShort) .number ≡ 18 → ⊥
+unfolding frameTests lineTests bufferTests recordTests rateTests emptyTests emptyTest listFrom doubtfulTooLarge
+not-eighteen r st n readShort writeShort h =
+    first-says 18 (frameTests r st n readShort writeShort) (lit< tt) (rw (le-ltb 24 (st .doubtful) h) refl)
 
 -- a frame is sent or received only where the record can carry its K bits
 pub holds-passed : (r : Record) (st : LineState) (n : ℕ) (readShort writeShort : Bool) → Passed r st n readShort writeShort → 0 < n

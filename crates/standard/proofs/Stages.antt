@@ -15,8 +15,8 @@ use Rattle.standard.specs.declared.Refusal.{Refusal}
 use Rattle.standard.specs.declared.Refusal.the-variants.{CountExceedsBytes, CountTooSmall, SyncBroken, IndexTooLarge, LengthWrong}
 use Rattle.standard.specs.declared.Refusal.the-variants.{StartBitSet, CrcMismatch, FixedBitWrong, DrnTooLarge, GrantedBelowFullRate}
 use Rattle.standard.specs.declared.Refusal.the-variants.{ProductTooSmall, MaskAboveIndices, FramesAtCleardown, HistoryTooLarge}
-use Rattle.standard.specs.declared.Refusal.the-variants.{TooManyFrames, InputTooShort, OutputTooShort, IntervalEmpty}
-use Rattle.standard.specs.declared.Refusal.the-variants.{RateOrSpacingOutside, NoMask, SumExceedsCeiling}
+use Rattle.standard.specs.declared.Refusal.the-variants.{TooManyFrames, InputTooShort, OutputTooShort, DoubtfulTooLarge}
+use Rattle.standard.specs.declared.Refusal.the-variants.{IntervalEmpty, RateOrSpacingOutside, NoMask, SumExceedsCeiling}
 use Rattle.standard.proofs.First.{numbered, None, none-first, first-append, first-left}
 
 -- no refusal has the number 0
@@ -38,6 +38,7 @@ refused-positive HistoryTooLarge = lit< tt
 refused-positive TooManyFrames = lit< tt
 refused-positive InputTooShort = lit< tt
 refused-positive OutputTooShort = lit< tt
+refused-positive DoubtfulTooLarge = lit< tt
 refused-positive (IntervalEmpty i) = lit< tt
 refused-positive RateOrSpacingOutside = lit< tt
 refused-positive NoMask = lit< tt

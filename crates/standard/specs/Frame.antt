@@ -1,5 +1,6 @@
--- Document 01, 'From data to line': a data frame sent, a data frame received with its mark, and N frames. Assumes nothing.
-use Prim.Native.Nat.{ℕ, _+_, _*_, _^_}
+-- Document 01, 'From data to line', and document 02, A.1: a data frame sent, a data frame received with its mark, and N frames. Assumes
+-- nothing.
+use Prim.Native.Nat.{ℕ, _+_, _*_, _-_, _^_}
 use mathlib.Core.Bool.{Bool, false, cond, not}
 use mathlib.Core.List.{List, [], _∷_, _++_, map}
 use lib.Dec.{eqb, leb}
@@ -17,9 +18,14 @@ use Rattle.standard.specs.declared.Law.{Law}
 use Rattle.standard.specs.declared.LineState.{LineState}
 use Rattle.standard.specs.declared.Record.{Record}
 
--- 'Line state': a term of document 01. 'The fresh state is zero for both.'
+-- 'Line state': a term of document 01. 'The fresh state is zero for both.' A.1: 'The line state gains a count from 0 to 24: 24 for a
+-- receiver told that it begins cold, else 0.'
 unfoldable pub fresh : LineState
-fresh = record { history = 0; sign = false }
+fresh = record { history = 0; sign = false; doubtful = 0 }
+
+-- the state of a receiver told that it begins cold, where no other history and sign are known
+unfoldable pub cold : LineState
+cold = record { history = 0; sign = false; doubtful = 24 }
 
 -- the data bits of n frames, which is where those of frame n begin
 abbrev pub dataBits : Record → ℕ → ℕ
@@ -47,8 +53,14 @@ frameOctets r l g ss = listFrom (λ i. octet l (nth (frameSigns g ss) i) (point 
 unfoldable pub sendFrame : Record → Law → LineState → List Bool → List ℕ
 sendFrame r l st ds = frameOctets r l (st .sign) (lineBits st ds)
 
+-- A.1: 'The sender carries it unchanged.'
 unfoldable pub sendNext : LineState → List Bool → LineState
-sendNext st ds = record { history = pushAll (st .history) (lineBits st ds); sign = nth (frameSigns (st .sign) (lineBits st ds)) 5 }
+sendNext st ds =
+    record {
+      history = pushAll (st .history) (lineBits st ds);
+      sign = nth (frameSigns (st .sign) (lineBits st ds)) 5;
+      doubtful = st .doubtful;
+    }
 
 -- ---- receiving
 
@@ -90,9 +102,19 @@ heardBits r l g os =
 unfoldable pub receiveFrame : Record → Law → LineState → List ℕ → List Bool
 receiveFrame r l st os = cond (good r l os) (descramble (st .history) (heardBits r l (st .sign) os)) (replicate (D r) false)
 
+-- A.1: 'A marked frame sets it to 24; a good frame lowers it by D, not below 0.' The count after a frame of d bits, good or not, where it
+-- is c before
+unfoldable pub doubtfulAfter : ℕ → Bool → ℕ → ℕ
+doubtfulAfter d isGood c = cond isGood (c - d) 24
+
 -- the state left: 'its sixth octet still sets the last sign'
 unfoldable pub receiveNext : Record → Law → LineState → List ℕ → LineState
-receiveNext r l st os = record { history = pushAll (st .history) (heardBits r l (st .sign) os); sign = signAt os 5 }
+receiveNext r l st os =
+    record {
+      history = pushAll (st .history) (heardBits r l (st .sign) os);
+      sign = signAt os 5;
+      doubtful = doubtfulAfter (D r) (good r l os) (st .doubtful);
+    }
 
 -- ---- N frames: 'Six octets from place 6 × n are frame n.'
 

@@ -15,13 +15,14 @@ pub struct Record {
     pub mask: [u64; 12],
 }
 
-// The line state: the last 23 scrambled bits, the latest in weight 1, and the last sign.
+// The line state: the last 23 scrambled bits, the latest in weight 1, the last sign, and how many coming data bits are doubtful.
 pub struct LineState {
     pub history: u32,
     pub sign: bool,
+    pub doubtful: u8,
 }
 
-// The refusals 1 to 17, 25 with the interval whose mask is empty, and 26 to 28.
+// The refusals 1 to 18, 25 with the interval whose mask is empty, and 26 to 28.
 pub enum Refusal {
     CountExceedsBytes,
     CountTooSmall,
@@ -40,6 +41,7 @@ pub enum Refusal {
     TooManyFrames,
     InputTooShort,
     OutputTooShort,
+    DoubtfulTooLarge,
     IntervalEmpty(u8),
     RateOrSpacingOutside,
     NoMask,

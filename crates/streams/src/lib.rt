@@ -3,11 +3,11 @@ use standard::LineState;
 use std::num::wrapping_add_u64;
 ghost use mathlib.Core.Path.{_≡_};
 ghost use mathlib.Core.Bool.{cond};
-ghost use Prim.Native.Nat.{_+_, _-_, _*_, _^_, _≤_, min};
+ghost use Prim.Native.Nat.{_+_, _*_, _^_, _≤_, min};
 ghost use lib.Dec.{eqb};
 ghost use lib.ListN.{length};
 ghost use Rattle.standard.specs.Bits.{bitAt, bytesOf, field};
-ghost use Rattle.standard.specs.Frame.{fresh};
+ghost use Rattle.standard.specs.Frame.{fresh, cold};
 ghost use Rattle.streams.specs.Cut.{CutInto};
 ghost use Rattle.streams.specs.Later.{later, differing as Later·differing};
 ghost use Rattle.streams.specs.Marks.{noted};
@@ -19,6 +19,18 @@ pub fn fresh_state() -> LineState
     LineState {
         history: 0,
         sign: false,
+        doubtful: 0,
+    }
+}
+
+// The line state of a receiver that begins cold.
+pub fn cold_state() -> LineState
+    ensures { λ s. ⌜ s ≡ cold ⌝ }
+{
+    LineState {
+        history: 0,
+        sign: false,
+        doubtful: 24,
     }
 }
 
@@ -92,14 +104,13 @@ pub fn differing(a: &[u8], b: &[u8], at: usize, count: usize) -> usize
 }
 
 // What the marks of the frames so far come to: how many frames there are and how many are marked, the mark of the last one and the first of
-// the frames up to it that have that mark, and how many bits of good frames are doubtful and how many to come are.
+// the frames up to it that have that mark, and how many bits of good frames are doubtful.
 pub struct Report {
     pub frames: u64,
     pub marked: u64,
     pub mark: u8,
     pub first: u64,
     pub doubtful: u64,
-    pub coming: u64,
 }
 
 // The first frame of the run that the next frame is in.
@@ -112,42 +123,28 @@ fn run_start(p: Report, mark: u8) -> u64
     p.frames
 }
 
-// How many bits of the next frame, of so many bits, are doubtful, where it is good.
-fn doubtful_in(coming: u64, mark: u8, width: u64) -> u64
+// How many bits of the next frame, of so many bits, are doubtful, where it is good and so many coming ones are.
+fn doubtful_in(width: u64, coming: u8, mark: u8) -> u64
     ensures { λ x. ⌜ x ≡ cond (eqb mark 0) (min width coming) 0 ⌝ }
 {
     if mark != 0 {
         return 0;
     }
-    if width < coming {
+    if width < coming as u64 {
         return width;
     }
-    coming
+    coming as u64
 }
 
-// How many bits to come are doubtful after it.
-fn doubtful_after(coming: u64, mark: u8, width: u64) -> u64
-    ensures { λ x. ⌜ x ≡ cond (eqb mark 0) (coming - width) 24 ⌝ }
-{
-    if mark != 0 {
-        return 24;
-    }
-    if width < coming {
-        return coming - width;
-    }
-    0
-}
-
-// One frame more, of `width` data bits.
-pub fn note(p: Report, mark: u8, width: u64) -> Report
-    ensures { λ x. ⌜ x ≡ noted width p mark ⌝ }
+// One frame more, of `width` data bits, before which `coming` bits are doubtful.
+pub fn note(p: Report, width: u64, coming: u8, mark: u8) -> Report
+    ensures { λ x. ⌜ x ≡ noted width coming p mark ⌝ }
 {
     Report {
         frames: wrapping_add_u64(p.frames, 1),
         marked: wrapping_add_u64(p.marked, (mark != 0) as u64),
         mark,
         first: run_start(p, mark),
-        doubtful: wrapping_add_u64(p.doubtful, doubtful_in(p.coming, mark, width)),
-        coming: doubtful_after(p.coming, mark, width),
+        doubtful: wrapping_add_u64(p.doubtful, doubtful_in(width, coming, mark)),
     }
 }

@@ -6,6 +6,7 @@ use mathlib.Core.Bool.{Bool, false}
 use mathlib.Core.List.{List, [], _∷_}
 use native.Mathlib.Nat.{not-suc-le-zero}
 use native.Mathlib.Omega.{arith}
+use lib.Dec.{eqb}
 use lib.ListN.{length, getD}
 use Rattle.standard.specs.Bits.{_⊕_}
 use Rattle.standard.specs.Record.{D}
@@ -16,7 +17,7 @@ use Rattle.standard.specs.declared.LineState.{LineState}
 use Rattle.standard.specs.declared.Record.{Record}
 use Rattle.standard.proofs.Scrambler.{Close, any-close, closer-all, same-past, length-scramble, descramble-scramble}
 use Rattle.standard.proofs.Signs.{taken, taken-same}
-use Rattle.standard.proofs.Frame.{Holds, sent-mark, sent-heard, sent-sign, length-receiveFrame}
+use Rattle.standard.proofs.Frame.{Holds, good-doubtful, sent-mark, sent-heard, sent-sign, length-receiveFrame}
 use Rattle.theorems.specs.Runs.{Same}
 use Rattle.theorems.proofs.Ends.{Link, Mends}
 
@@ -74,6 +75,12 @@ module _ (r : Record) (l : Law) (holds : Holds r) (c : ℕ) (s t : LineState) (d
             (taken-close c (s .history) (t .history) (s .sign) (t .sign) (n .history) (n .sign) ds);
         sign = inr (sym (sent-sign r l holds s ds fit t));
       }
+
+  -- A.1's count after a frame as sent
+  pub link-doubtful : receiveNext r l t (sendFrame r l s ds) .doubtful ≡ t .doubtful - length ds
+  link-doubtful =
+      good-doubtful r l (sendFrame r l s ds) t (ap (λ (x : ℕ). eqb x 0) (sent-mark r l holds s ds fit))
+      ∙ ap (λ (x : ℕ). t .doubtful - x) (sym fit)
 
 pub link : (r : Record) (l : Law) → Holds r → Link (sendFrame r l) sendNext (λ f. f) (receiveFrame r l) (receiveNext r l)
     (λ s f. length f ≡ D r) Near

@@ -1,13 +1,13 @@
 -- A sender and a receiver, frame by frame, for any frames and states: what a line that alters some frames leaves as sent. Assumes nothing.
 use mathlib.Core.Path.{_≡_, sym, ap, _∙_}
-use mathlib.Core.Logic.{inl, inr}
+use mathlib.Core.Logic.{_⊎_, inl, inr}
 use Prim.Native.Nat.{ℕ, zero, suc, _+_, _-_, _≤_, _<_}
 use mathlib.Core.Bool.{Bool, false}
 use mathlib.Core.List.{List, [], _∷_, _++_, map}
 use native.Mathlib.Decide.{decLe}
 use native.Mathlib.Nat.{not-suc-le-zero}
 use native.Mathlib.Omega.{arith}
-use lib.ListN.{length, getD, List·getD-append}
+use lib.ListN.{length, getD, take, List·getD-append}
 use lib.Seq.{getD-append-add}
 use Rattle.standard.specs.Lists.{joined, each, after}
 use Rattle.theorems.specs.Runs.{Damage, clean, frames, Outside, Beyond}
@@ -113,3 +113,33 @@ module _ {S T F Y : Type 0} {send : S → F → Y} {sendNext : S → F → S} {g
       go : Dec (x ≤ length ys) → getD (joined (each hear hearNext t ys)) p false ≡ getD (joined (map given fs)) p false
       go (yes z) = before x c s t fs ys n k w z (λ i u. o i (omega arith) (inl u)) p b l
       go (no z) = before (length ys) c s t fs ys n k w (omega arith) (λ i u. o i u (inl (omega arith))) p h l
+
+  -- a count of doubtful bits that the receiver keeps is right where every altered frame is marked
+  module _ (mends : Mends sendNext hearNext Fit Near) (count : T → ℕ) (Marked : Y → Type 0)
+      (lowers : (c : ℕ) (s : S) (t : T) (f : F) → Fit s f → Near c s t → count (hearNext t (send s f)) ≡ count t - length (given f))
+      (sets : (t : T) (y : Y) → Marked y → count (hearNext t y) ≡ 24) where
+    counted-next : (s : S) (t : T) (f : F) (y : Y) → Fit s f → Near (count t) s t → (y ≡ send s f) ⊎ Marked y
+        → Near (count (hearNext t y)) (sendNext s f) (hearNext t y)
+    counted-next s t f y k n (inl e) = rw e (rw (lowers (count t) s t f k n) (link .nearer (count t) s t f k n))
+    counted-next s t f y k n (inr m) = rw (sets t y m) (mends .lose (count t) s t f y k n)
+
+    pub counted : (i : ℕ) (s : S) (t : T) (fs : List F) (ys : List Y) → Near (count t) s t → Fits sendNext Fit s fs → length ys ≤ length fs
+        → ((j : ℕ) → j < length ys → Left s fs ys j ⊎ Marked (getD ys j y₀)) → i < length ys → Left s fs ys i
+        → (p : ℕ) → count (after hearNext t (take i ys)) ≤ p → start given i fs + p < start given (suc i) fs
+        → getD (joined (each hear hearNext t ys)) (start given i fs + p) false ≡ getD (joined (map given fs)) (start given i fs + p) false
+    unfolding joined each start after
+    counted i s t fs [] n k w o h e p l b = absurd (not-suc-le-zero h)
+    counted i s t [] (y ∷ ys) n k w o h e p l b = absurd (not-suc-le-zero w)
+    counted zero s t (f ∷ fs) (y ∷ ys) n k w o h e p l b =
+        let z : 0 + p ≡ p = omega arith in
+        rw z
+        (two (hear t y) (joined (each hear hearNext (hearNext t y) ys)) (given f) (joined (map given fs)) p
+        (link .long (count t) s t f y (k .0) n) (λ q. rw e (link .bits (count t) s t f (k .0) n p l)) (λ q. absurd (omega arith)))
+    counted (suc i) s t (f ∷ fs) (y ∷ ys) n k w o h e p l b =
+        let z : length (given f) + start given i fs + p ≡ length (given f) + (start given i fs + p) = omega arith in
+        let back : length (given f) + (start given i fs + p) - length (given f) ≡ start given i fs + p = omega arith in
+        let rest = counted i (sendNext s f) (hearNext t y) fs ys (counted-next s t f y (k .0) n (o 0 (omega arith))) (k .1) (omega arith)
+        (λ j v. o (suc j) (omega arith)) (omega arith) e p l (omega arith) in
+        rw z
+        (two (hear t y) (joined (each hear hearNext (hearNext t y) ys)) (given f) (joined (map given fs))
+        (length (given f) + (start given i fs + p)) (link .long (count t) s t f y (k .0) n) (λ q. absurd (omega arith)) (λ q. rw back rest))

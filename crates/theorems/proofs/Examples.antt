@@ -19,8 +19,8 @@ use Rattle.standard.specs.Modulus.{product, labels, number}
 use Rattle.standard.specs.Signs.{signsOf, signBits}
 use Rattle.standard.specs.Octets.{positiveOctet, octet, signOf, ucodeOf}
 use Rattle.standard.specs.Frame.{fresh, ucodeAt, lineBits, frameSigns, frameLabels, frameOctets, sendFrame, sendNext, receivedNumber}
-use Rattle.standard.specs.Frame.{outsideTest, outsideTests, markTests, mark, heardBits, receiveFrame, receiveNext, sendFrames, sendAfter}
-use Rattle.standard.specs.Frame.{receiveFrames, receiveMarks, receiveAfter}
+use Rattle.standard.specs.Frame.{outsideTest, outsideTests, markTests, mark, heardBits, receiveFrame, doubtfulAfter, receiveNext, sendFrames}
+use Rattle.standard.specs.Frame.{sendAfter, receiveFrames, receiveMarks, receiveAfter}
 use Rattle.standard.specs.Refusals.{countExceedsBytes, countTooSmall, syncBroken, indexTooLarge, lengthWrong, fixedBitWrong, drnTooLarge}
 use Rattle.standard.specs.Refusals.{grantedBelowFullRate, intervalEmpty, productTooSmall, maskAboveIndices, emptyTest, emptyTests}
 use Rattle.standard.specs.Refusals.{rateTests, recordTests, readTests}
@@ -39,9 +39,9 @@ unfolding table listFrom any largest parts joined each after first bitAt bitsIn 
     crcBelow bitIn headFields maskFields cpBody crcField cpBit cpBytes maskBitIn halfIn recordIn crcMatches startBitSet taps push pushAll
     scramble descramble sizeOf labelOf pointOf member sizes product labels number signsOf signBits positiveOctet octet signOf ucodeOf fresh
     lineBits frameSigns frameLabels frameOctets sendFrame sendNext receivedNumber outsideTest outsideTests markTests mark heardBits
-    receiveFrame receiveNext sendFrames sendAfter receiveFrames receiveMarks receiveAfter countExceedsBytes countTooSmall syncBroken
-    indexTooLarge lengthWrong fixedBitWrong drnTooLarge grantedBelowFullRate intervalEmpty productTooSmall maskAboveIndices emptyTest
-    emptyTests rateTests recordTests readTests readRefusal
+    receiveFrame doubtfulAfter receiveNext sendFrames sendAfter receiveFrames receiveMarks receiveAfter countExceedsBytes countTooSmall
+    syncBroken indexTooLarge lengthWrong fixedBitWrong drnTooLarge grantedBelowFullRate intervalEmpty productTooSmall maskAboveIndices
+    emptyTest emptyTests rateTests recordTests readTests readRefusal
 rows-hold = refl
 
 -- ---- B10: with full masks every Ucode belongs, and the labels of any six form a number below 2^42

@@ -19,11 +19,11 @@ use Rattle.standard.specs.Modulus.{product, labels, number}
 use Rattle.standard.specs.Signs.{signsOf, signBits}
 use Rattle.standard.specs.Octets.{positiveOctet, octet, signOf, ucodeOf}
 use Rattle.standard.specs.Frame.{fresh, lineBits, frameSigns, frameLabels, frameOctets, sendFrame, sendNext, receivedNumber, outsideTest}
-use Rattle.standard.specs.Frame.{outsideTests, markTests, mark, heardBits, receiveFrame, receiveNext, sendFrames, sendAfter, receiveFrames}
-use Rattle.standard.specs.Frame.{receiveMarks, receiveAfter}
+use Rattle.standard.specs.Frame.{outsideTests, markTests, mark, heardBits, receiveFrame, doubtfulAfter, receiveNext, sendFrames, sendAfter}
+use Rattle.standard.specs.Frame.{receiveFrames, receiveMarks, receiveAfter}
 use Rattle.standard.specs.Refusals.{indexTooLarge, drnTooLarge, grantedBelowFullRate, intervalEmpty, productTooSmall, maskAboveIndices}
-use Rattle.standard.specs.Refusals.{framesAtCleardown, historyTooLarge, tooManyFrames, emptyTest, emptyTests, rateTests, recordTests}
-use Rattle.standard.specs.Refusals.{lineTests, bufferTests, frameTests}
+use Rattle.standard.specs.Refusals.{framesAtCleardown, historyTooLarge, doubtfulTooLarge, tooManyFrames, emptyTest, emptyTests, rateTests}
+use Rattle.standard.specs.Refusals.{recordTests, lineTests, bufferTests, frameTests}
 use Rattle.standard.specs.Calls.{SendCall, sendRefusal, sendBits, sendLeft, sendOctets, ReceiveCall, receiveRefusal, receiveOctets}
 use Rattle.standard.specs.Calls.{receiveLeft, receiveBytes, receiveMarked}
 use Rattle.standard.specs.declared.Law.the-variants.{Mu, A}
@@ -72,10 +72,10 @@ instance : Run common Mu fresh (state 77 true) sending receiving (frames 0 0) de
 unfolding listFrom any largest parts joined each after first bitAt bitsIn field bytesOf nth numberOf bitsOf topIndex inMask taps push
     pushAll scramble descramble sizeOf labelOf pointOf member sizes product labels number signsOf signBits positiveOctet octet signOf
     ucodeOf fresh lineBits frameSigns frameLabels frameOctets sendFrame sendNext receivedNumber outsideTest outsideTests markTests mark
-    heardBits receiveFrame receiveNext sendFrames sendAfter receiveFrames receiveMarks receiveAfter indexTooLarge drnTooLarge
-    grantedBelowFullRate intervalEmpty productTooSmall maskAboveIndices framesAtCleardown historyTooLarge tooManyFrames emptyTest emptyTests
-    rateTests recordTests lineTests bufferTests frameTests sendRefusal sendBits sendLeft sendOctets receiveRefusal receiveOctets receiveLeft
-    receiveBytes receiveMarked overCalls AllCalls sent octetsRead marksGiven SendsWith ReceivesWith Carried
+    heardBits receiveFrame doubtfulAfter receiveNext sendFrames sendAfter receiveFrames receiveMarks receiveAfter indexTooLarge drnTooLarge
+    grantedBelowFullRate intervalEmpty productTooSmall maskAboveIndices framesAtCleardown historyTooLarge doubtfulTooLarge tooManyFrames
+    emptyTest emptyTests rateTests recordTests lineTests bufferTests frameTests sendRefusal sendBits sendLeft sendOctets receiveRefusal
+    receiveOctets receiveLeft receiveBytes receiveMarked overCalls AllCalls sent octetsRead marksGiven SendsWith ReceivesWith Carried
 instance = (
   record {
     sender = (λ e. (refl, refl), (λ e. (refl, refl), (λ e. absurd (wrong e), (λ e. (refl, refl), tt))));

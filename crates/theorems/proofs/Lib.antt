@@ -2,6 +2,7 @@ pub mod Ends
 pub mod Doubt
 pub mod OverCalls
 pub mod Runs
+pub mod Counts
 pub mod Fewer
 pub mod Examples
 pub mod Ignored
@@ -9,6 +10,7 @@ pub mod WriteRead
 pub mod ReadWrite
 pub mod Zeros
 pub mod Instance
+pub mod CountsInstance
 pub mod Empty
 pub mod Lengths
 pub mod Dil

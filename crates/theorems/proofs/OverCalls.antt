@@ -16,7 +16,7 @@ use Rattle.standard.specs.Calls.{SendCall, sendBits, sendLeft, ReceiveCall, rec
 use Rattle.standard.specs.declared.Law.{Law}
 use Rattle.standard.specs.declared.LineState.{LineState}
 use Rattle.standard.specs.declared.Record.{Record}
-use Rattle.standard.proofs.Lists.{Sized, joined-append, sized-parts, joined-parts, length-parts, each-append, each-map}
+use Rattle.standard.proofs.Lists.{Sized, joined-append, sized-parts, joined-parts, length-parts, each-append, after-append, each-map}
 use Rattle.standard.proofs.Frame.{Holds}
 use Rattle.standard.proofs.Calls.{Sends, sends-own, Receives, receives-own}
 use Rattle.theorems.specs.Runs.{overCalls, AllCalls, sends, receives, message, sent, octetsRead, handedOver, marksGiven, SendsWith}
@@ -61,6 +61,20 @@ module _ {S C F : Type 0} (accepts : S → C → Bool) (left : S → C → S) (P
       go true e k = rw e
           (fits-append next Fit st (frames st c) fs (own st c e (w .0 e)) (subst (λ (z : S). Fits next Fit z fs) (moved st c e (w .0 e)) k))
       go false e k = rw e (subst (λ (z : S). Fits next Fit z fs) (refused st c e) k)
+
+  -- the state that the calls leave is the one that the frames leave
+  pub run-state : (st : S) (cs : List C) → AllCalls accepts left P st cs
+      → after left st cs ≡ after next st (overCalls accepts left frames st cs)
+  unfolding overCalls AllCalls after
+  run-state st [] w = refl
+  run-state st (c ∷ cs) w = run-state (left st c) cs (w .1) ∙ go (accepts st c) refl
+    where
+      fs : List F
+      fs = overCalls accepts left frames (left st c) cs
+
+      go : (b : Bool) → accepts st c ≡ b → after next (left st c) fs ≡ after next st (cond (accepts st c) (frames st c) [] ++ fs)
+      go true e = rw e (ap (λ (z : S). after next z fs) (moved st c e (w .0 e)) ∙ sym (after-append next st (frames st c) fs))
+      go false e = rw e (ap (λ (z : S). after next z fs) (refused st c e))
 
   -- what follows from any frame of a call follows from one of the run
   pub run-some : (Q : Type 0) → ((st : S) (c : C) → accepts st c ≡ true → P c → zero < length (frames st c) → Q)
@@ -174,12 +188,13 @@ module _ (r : Record) (l : Law) where
 
 -- ---- the receiver
 
-pub record ReceiveRun (r : Record) (l : Law) (st : LineState) (os : List ℕ) (ds : List Bool) (ms : List ℕ) : Type 0 where
+pub record ReceiveRun (r : Record) (l : Law) (st left : LineState) (os : List ℕ) (ds : List Bool) (ms : List ℕ) : Type 0 where
   pub frames : List (List ℕ)
   pub sized : Sized 6 frames
   pub octets : os ≡ joined frames
   pub bits : ds ≡ joined (each (receiveFrame r l) (receiveNext r l) st frames)
   pub marks : ms ≡ map (mark r l) frames
+  pub state : left ≡ after (receiveNext r l) st frames
 
 module _ (r : Record) (l : Law) where
   abbrev Withʳ : ReceiveCall → Type 0
@@ -201,7 +216,7 @@ module _ (r : Record) (l : Law) where
   movedʳ st c e w = ownʳ st c e w .state
 
   pub receive-run : (st : LineState) (cs : List ReceiveCall) → ReceivesWith r l st cs
-      → ReceiveRun r l st (octetsRead st cs) (handedOver st cs) (marksGiven st cs)
+      → ReceiveRun r l st (after receiveLeft st cs) (octetsRead st cs) (handedOver st cs) (marksGiven st cs)
   unfolding octetsRead handedOver marksGiven ReceivesWith receiveFrames receiveMarks
   receive-run st cs w =
       let fs = overCalls receives receiveLeft framesIn st cs in
@@ -223,4 +238,5 @@ module _ (r : Record) (l : Law) where
             one-run receives receiveLeft Withʳ framesIn next refusedʳ movedʳ _ (λ z y. mark r l y ∷ [])
             (λ z c e k. ownʳ z c e k .marks ∙ sym (ones next (mark r l) z (framesIn z c))) st cs w
             ∙ ones next (mark r l) st fs;
+        state = run-state receives receiveLeft Withʳ framesIn next refusedʳ movedʳ st cs w;
       }

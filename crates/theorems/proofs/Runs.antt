@@ -12,12 +12,12 @@ use borrow.Author.Tests.{le-leb, eqb-false}
 use lib.Dec.{leb}
 use lib.ListN.{length, getD, take, length-map}
 use lib.Seq.{ext-getD, length-take-le, getD-take}
-use Rattle.standard.specs.Lists.{listFrom, joined, each}
+use Rattle.standard.specs.Lists.{listFrom, joined, each, after}
 use Rattle.standard.specs.Bits.{bitsIn, nth}
 use Rattle.standard.specs.Record.{D}
 use Rattle.standard.specs.Frame.{dataBits, sendFrame, sendNext, receiveFrame, receiveNext, mark}
 use Rattle.standard.specs.Refusals.{framesAtCleardown}
-use Rattle.standard.specs.Calls.{SendCall, sendRefusal, sendBits, sendLeft, sendOctets}
+use Rattle.standard.specs.Calls.{SendCall, sendRefusal, sendBits, sendLeft, sendOctets, ReceiveCall, receiveLeft}
 use Rattle.standard.specs.declared.Law.{Law}
 use Rattle.standard.specs.declared.LineState.{LineState}
 use Rattle.standard.specs.declared.Record.{Record}
@@ -25,15 +25,16 @@ use Rattle.standard.proofs.Lists.{Sized, sized-at, length-joined, joined-at, jo
 use Rattle.standard.proofs.Modulus.{positive-factor}
 use Rattle.standard.proofs.Frame.{Holds, sent-mark, length-sendFrame, length-receiveFrame}
 use Rattle.standard.proofs.Refusals.{and-false-right, passed}
-use Rattle.theorems.specs.Runs.{sends, message, sent, SendsWith, Damage, clean, frames, Outside, Unaltered, Carried}
-use Rattle.theorems.specs.Runs.{reach, Beyond, Same, Delivered, RunsDeliver, MessagesDiffer, NothingAtCleardown}
+use Rattle.theorems.specs.Runs.{sends, message, sent, octetsRead, handedOver, marksGiven, SendsWith, Damage, clean, frames, Outside}
+use Rattle.theorems.specs.Runs.{Unaltered, Carried, reach, Beyond, Same, Run, Delivered, RunsDeliver, MessagesDiffer}
+use Rattle.theorems.specs.Runs.{NothingAtCleardown}
 use Rattle.theorems.proofs.Ends.{start, past-damage}
 use Rattle.theorems.proofs.Doubt.{Near, near-any, near-same, link, mends}
 use Rattle.theorems.proofs.OverCalls.{nothing-over, SendRun, send-run, ReceiveRun, receive-run, sized-fits, map-whole}
 
 -- ---- frames of one width w: frame q begins at q * w, and no frame begins past the end
 
-start-sized : (w q : ℕ) (fs : List (List Bool)) → Sized w fs → q ≤ length fs → start (λ f. f) q fs ≡ q * w
+pub start-sized : (w q : ℕ) (fs : List (List Bool)) → Sized w fs → q ≤ length fs → start (λ f. f) q fs ≡ q * w
 unfolding start
 start-sized w zero fs k h = omega arith
 start-sized w (suc q) [] k h = absurd (not-suc-le-zero h)
@@ -68,7 +69,7 @@ left-alone xs ys line a b le e i h u =
 -- ---- frames sent, and those received of them
 
 module _ (r : Record) (l : Law) where
-  abbrev sixes : LineState → List (List Bool) → List (List ℕ)
+  abbrev pub sixes : LineState → List (List Bool) → List (List ℕ)
   sixes = each (sendFrame r l) sendNext
 
   abbrev heard : LineState → List (List ℕ) → List Bool
@@ -123,40 +124,52 @@ getD-map f (x ∷ xs) d (suc i) h = getD-map f xs d i (omega arith)
 beyond-clean : (w : Damage) (f : ℕ → ℕ) (p : ℕ) → w ≡ clean → Beyond w f p
 beyond-clean w f p e = subst (λ (x : Damage). Beyond x f p) (sym e) tt
 
-module _ (r : Record) (l : Law) (s t : LineState) (ds out : List Bool) (xs os ms : List ℕ) (S : SendRun r l s ds xs)
-    (Q : ReceiveRun r l t os out ms)
-    (w : Damage) (line : List ℕ) (c : Carried w xs line) (m : ℕ) (le : m * 6 ≤ length line) (e : os ≡ take (m * 6) line) where
-  abbrev fs : List (List Bool)
+module _ (r : Record) (l : Law) (s t : LineState) (sending : List SendCall) (receiving : List ReceiveCall) (w : Damage) (line : List ℕ)
+    (m : ℕ) (u : Run r l s t sending receiving w line m) where
+  abbrev pub S : SendRun r l s (message s sending) (sent s sending)
+  S = send-run r l s sending (u .sender)
+
+  abbrev pub Q : ReceiveRun r l t (after receiveLeft t receiving) (octetsRead t receiving) (handedOver t receiving) (marksGiven t receiving)
+  Q = receive-run r l t receiving (u .receiver)
+
+  abbrev pub fs : List (List Bool)
   fs = S .frames
 
-  abbrev ys : List (List ℕ)
+  abbrev pub ys : List (List ℕ)
   ys = Q .frames
 
   carried : (length line ≡ length (joined (sixes r l s fs))) × ((i : ℕ) → Outside w i → Unaltered (joined (sixes r l s fs)) line i)
   unfolding Carried
-  carried = subst (λ (x : List ℕ). Carried w x line) (S .octets) c
+  carried = subst (λ (x : List ℕ). Carried w x line) (S .octets) (u .carried)
 
   line-long : length line ≡ length fs * 6
   line-long = carried .0 ∙ length-joined 6 (sixes r l s fs) (sized-sixes r l s fs) ∙ ap (λ (x : ℕ). x * 6) (length-sixes r l s fs)
 
-  many : length ys ≡ m
-  many = omega (arith, length-joined 6 ys (Q .sized), ap length (sym (Q .octets) ∙ e), length-take-le (m * 6) line le)
+  pub many : length ys ≡ m
+  many = omega (arith, length-joined 6 ys (Q .sized), ap length (sym (Q .octets) ∙ u .reads), length-take-le (m * 6) line (u .inside))
 
-  short : length ys ≤ length fs
+  pub short : length ys ≤ length fs
   short = omega (arith, line-long, many)
 
-  same-frame : (i : ℕ) → i < length ys → Outside w i → getD ys i [] ≡ getD (sixes r l s fs) i []
-  same-frame i h o =
+  -- a frame that was left alone
+  pub alone : (i : ℕ) → i < length ys → Unaltered (sent s sending) line i → getD ys i [] ≡ getD (sixes r l s fs) i []
+  alone i h k =
       left-alone (sixes r l s fs) ys line (sized-sixes r l s fs) (Q .sized) (omega (arith, short, length-sixes r l s fs))
-      (sym (Q .octets) ∙ e ∙ ap (λ (x : ℕ). take (x * 6) line) (sym many)) i h (carried .1 i o)
+      (sym (Q .octets) ∙ u .reads ∙ ap (λ (x : ℕ). take (x * 6) line) (sym many)) i h
+      (subst (λ (x : List ℕ). Unaltered x line i) (S .octets) k)
 
-  held : dataBits r m ≤ length ds
+  same-frame : (i : ℕ) → i < length ys → Outside w i → getD ys i [] ≡ getD (sixes r l s fs) i []
+  unfolding Carried
+  same-frame i h o = alone i h (u .carried .1 i o)
+
+  held : dataBits r m ≤ length (message s sending)
   held = omega (arith, ap length (S .message), length-joined (D r) fs (S .sized), mul-le-mul-right (D r) (rw many at short))
 
-  count : length out ≡ dataBits r m
+  count : length (handedOver t receiving) ≡ dataBits r m
   count = ap length (Q .bits) ∙ length-heard r l t ys ∙ ap (λ (x : ℕ). x * D r) many
 
-  asSent : (p : ℕ) → p < dataBits r m → Beyond w (dataBits r) p → Same s t ⊎ (reach ≤ p) → nth out p ≡ nth ds p
+  asSent : (p : ℕ) → p < dataBits r m → Beyond w (dataBits r) p → Same s t ⊎ (reach ≤ p)
+      → nth (handedOver t receiving) p ≡ nth (message s sending) p
   unfolding nth
   asSent p h b k =
       let near = near-start s t p k in
@@ -165,7 +178,11 @@ module _ (r : Record) (l : Law) (s t : LineState) (ds out : List Bool) (xs os ms
       (S .sized) short w same-frame (near .0) (near .1) p (rw many h) b (near .2)
       ∙ ap (λ (x : List Bool). getD x p false) (sym (S .message))
 
-  deliver : Delivered r w s t m ds out ms
+  -- the mark given of frame i
+  pub mark-at : (i : ℕ) → i < m → getD (marksGiven t receiving) i 0 ≡ mark r l (getD ys i [])
+  mark-at i h = ap (λ (x : List ℕ). getD x i 0) (Q .marks) ∙ getD-map (mark r l) ys [] i (omega (arith, many))
+
+  deliver : Delivered r w s t m (message s sending) (handedOver t receiving) (marksGiven t receiving)
   unfolding nth
   deliver =
       record {
@@ -175,50 +192,48 @@ module _ (r : Record) (l : Law) (s t : LineState) (ds out : List Bool) (xs os ms
         markCount = ap length (Q .marks) ∙ length-map ys (mark r l) ∙ many;
         marks = λ i h o.
             let i′ : i < length ys = omega (arith, many) in
-            ap (λ (x : List ℕ). getD x i 0) (Q .marks) ∙ getD-map (mark r l) ys [] i i′
-            ∙ ap (mark r l) (same-frame i i′ o) ∙ all-good r l (S .holds (omega (arith, short))) s fs (S .sized) i (omega (arith, short));
+            mark-at i h ∙ ap (mark r l) (same-frame i i′ o) ∙ all-good r l (S .holds (omega (arith, short))) s fs (S .sized) i (omega (arith, short));
         whole = λ z k.
-            ext-getD false out (take (dataBits r m) ds) (count ∙ sym (length-take-le (dataBits r m) ds held))
+            ext-getD false (handedOver t receiving) (take (dataBits r m) (message s sending))
+            (count ∙ sym (length-take-le (dataBits r m) (message s sending) held))
             (λ p h. let h′ : p < dataBits r m = rw count at h in asSent p h′ (beyond-clean w (dataBits r) p z) (inl k)
-            ∙ sym (getD-take (dataBits r m) ds p false h′));
+            ∙ sym (getD-take (dataBits r m) (message s sending) p false h′));
       }
 
 pub runs : RunsDeliver
-runs r l s t sending receiving w line m u =
-    deliver r l s t _ _ _ _ _ (send-run r l s sending (u .sender)) (receive-run r l t receiving (u .receiver)) w line (u .carried) m
-    (u .inside) (u .reads)
+runs = deliver
 
 -- ---- two messages
 
-module _ (r : Record) (l : Law) (s : LineState) where
-  -- a message is what its own octets give back
-  back : (ds : List Bool) (os : List ℕ) (S : SendRun r l s ds os) (p : ℕ) → p < length (S .frames) * D r
-      → getD (heard r l s (sixes r l s (S .frames))) p false ≡ getD ds p false
-  back ds os S p h =
+module _ (r : Record) (l : Law) where
+  -- a message is what its own octets give back, in any state that is the same
+  back : (s t : LineState) → Same s t → (ds : List Bool) (os : List ℕ) (S : SendRun r l s ds os) (p : ℕ) → p < length (S .frames) * D r
+      → getD (heard r l t (sixes r l s (S .frames))) p false ≡ getD ds p false
+  back s t k ds os S p h =
       let n = length-sixes r l s (S .frames) in
-      heard-asSent r l (S .holds (positive-factor (length (S .frames)) (D r) p h)) s s (S .frames) (sixes r l s (S .frames)) (S .sized)
-      (omega arith) clean (λ i q o. refl) 0 (near-same 0 s s (refl, refl)) p (rw n h) tt (omega arith)
+      heard-asSent r l (S .holds (positive-factor (length (S .frames)) (D r) p h)) s t (S .frames) (sixes r l s (S .frames)) (S .sized)
+      (omega arith) clean (λ i q o. refl) 0 (near-same 0 s t k) p (rw n h) tt (omega arith)
       ∙ ap (λ (x : List Bool). getD x p false) (sym (S .message))
 
-  long : (ds : List Bool) (os : List ℕ) (S : SendRun r l s ds os) → length ds ≡ length (S .frames) * D r
-  long ds os S = ap length (S .message) ∙ length-joined (D r) (S .frames) (S .sized)
+  long : (s : LineState) (ds : List Bool) (os : List ℕ) (S : SendRun r l s ds os) → length ds ≡ length (S .frames) * D r
+  long s ds os S = ap length (S .message) ∙ length-joined (D r) (S .frames) (S .sized)
 
-  same-message : (ds ds′ : List Bool) (os os′ : List ℕ) → SendRun r l s ds os → SendRun r l s ds′ os′ → length ds ≡ length ds′ → os ≡ os′
-      → ds ≡ ds′
-  same-message ds ds′ os os′ a b e o =
+  same-message : (s t : LineState) → Same s t → (ds ds′ : List Bool) (os os′ : List ℕ) → SendRun r l s ds os → SendRun r l t ds′ os′
+      → length ds ≡ length ds′ → os ≡ os′ → ds ≡ ds′
+  same-message s t k ds ds′ os os′ a b e o =
       let n : length (a .frames) ≡ length (b .frames) = eq-of-mul-eq-mul-right (D r) (omega arith) (length (a .frames)) (length (b .frames))
-      (sym (long ds os a) ∙ e ∙ long ds′ os′ b) in
-      let same : sixes r l s (a .frames) ≡ sixes r l s (b .frames) =
-      joined-inj 6 (sixes r l s (a .frames)) (sixes r l s (b .frames)) (sized-sixes r l s (a .frames)) (sized-sixes r l s (b .frames))
-      (length-sixes r l s (a .frames) ∙ n ∙ sym (length-sixes r l s (b .frames))) (sym (a .octets) ∙ o ∙ b .octets) in
+      (sym (long s ds os a) ∙ e ∙ long t ds′ os′ b) in
+      let same : sixes r l s (a .frames) ≡ sixes r l t (b .frames) =
+      joined-inj 6 (sixes r l s (a .frames)) (sixes r l t (b .frames)) (sized-sixes r l s (a .frames)) (sized-sixes r l t (b .frames))
+      (length-sixes r l s (a .frames) ∙ n ∙ sym (length-sixes r l t (b .frames))) (sym (a .octets) ∙ o ∙ b .octets) in
       ext-getD false ds ds′ e
       (λ p h.
-      sym (back ds os a p (rw (← long ds os a) h))
-      ∙ ap (λ (x : List (List ℕ)). getD (heard r l s x) p false) same
-      ∙ back ds′ os′ b p (rw (← long ds′ os′ b, ← e) h))
+      sym (back s t k ds os a p (rw (← long s ds os a) h))
+      ∙ ap (λ (x : List (List ℕ)). getD (heard r l t x) p false) same
+      ∙ back t t (refl, refl) ds′ os′ b p (rw (← long t ds′ os′ b, ← e) h))
 
 pub messages-differ : MessagesDiffer
-messages-differ r l s one other a b e o = same-message r l s _ _ _ _ (send-run r l s one a) (send-run r l s other b) e o
+messages-differ r l s t one other k a b e o = same-message r l s t k _ _ _ _ (send-run r l s one a) (send-run r l t other b) e o
 
 -- ---- cleardown
 

@@ -45,7 +45,7 @@ abbrev pub common : Record
 common = record { granted = false; drn = 1; acknowledge = false; index = replicate 6 0; mask = 63 ∷ replicate 11 0 }
 
 abbrev pub state : ℕ → Bool → LineState
-state h s = record { history = h; sign = s }
+state h s = record { history = h; sign = s; doubtful = 0 }
 
 -- six positive octets of Ucodes, and of labels in the common masks
 abbrev pub ofUcodes : List ℕ → List ℕ

@@ -1,4 +1,5 @@
 pub mod Runs
+pub mod Counts
 pub mod Examples
 pub mod RoundTrip
 pub mod Empty

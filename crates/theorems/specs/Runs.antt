@@ -91,7 +91,8 @@ abbrev pub Beyond : Damage → (ℕ → ℕ) → ℕ → Type 0
 Beyond clean f p = Unit {0}
 Beyond (frames a b) f p = (p < f a) ⊎ (f (b + 1) + reach ≤ p)
 
--- two line states are the same: equal history and equal last sign
+-- two line states are the same: equal history and equal last sign. A differing count (A.1) makes no two states differ: it changes no bit
+-- and no mark
 abbrev pub Same : LineState → LineState → Type 0
 Same s t = (s .history ≡ t .history) × (s .sign ≡ t .sign)
 
@@ -131,8 +132,8 @@ RunsDeliver =
 -- 'so two different messages of one length never give the same octets': 'as sent from one state, with one record and law'
 abbrev pub MessagesDiffer : Type 0
 MessagesDiffer =
-    (r : Record) (l : Law) (s : LineState) (one other : List SendCall) → SendsWith r l s one → SendsWith r l s other
-    → length (message s one) ≡ length (message s other) → sent s one ≡ sent s other → message s one ≡ message s other
+    (r : Record) (l : Law) (s t : LineState) (one other : List SendCall) → Same s t → SendsWith r l s one → SendsWith r l t other
+    → length (message s one) ≡ length (message t other) → sent s one ≡ sent t other → message s one ≡ message t other
 
 -- 'With drn 0 no frame is ever sent.'
 abbrev pub NothingAtCleardown : Type 0

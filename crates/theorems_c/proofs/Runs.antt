@@ -1,4 +1,4 @@
--- Demand 3 of the C functions: an accepted call does what the entry does in the state that the bytes hold. Assumes nothing.
+-- Demand 3 and A.1 of the C functions: an accepted call does what the entry does in the state that the bytes hold. Assumes nothing.
 use mathlib.Core.Path.{_≡_, refl, sym, ap, ap₂, _∙_, subst}
 use Prim.Native.Nat.{ℕ, _*_, _/_, _%_, _^_, _<_}
 use mathlib.Core.Bool.{Bool, true, false, true≢false, _||_}
@@ -21,15 +21,16 @@ use Rattle.standard.specs.Calls.{ReceiveCall, receiveCall, receiveOctets, recei
 use Rattle.standard.specs.declared.Law.{Law}
 use Rattle.standard.specs.declared.LineState.{LineState}
 use Rattle.standard.specs.declared.Record.{Record}
-use Rattle.standard.proofs.Lists.{length-listFrom, getD-list}
+use Rattle.standard.proofs.Lists.{length-listFrom, getD-list, after-keeps}
 use Rattle.standard.proofs.Bits.{field-lt}
 use Rattle.standard.proofs.Scrambler.{pushAll-lt}
 use Rattle.standard.proofs.Refusals.{passed}
 use Rattle.standard.proofs.Calls.{sends-own, receives-own}
 use Rattle.theorems.specs.RoundTrip.{Shaped}
 use Rattle.theorems.specs.Runs.{overCalls, AllCalls, sends, receives, message, sent, octetsRead, handedOver, marksGiven}
-use Rattle.theorems.specs.Runs.{SendsWith, ReceivesWith}
+use Rattle.theorems.specs.Runs.{SendsWith, ReceivesWith, Damage, Run}
 use Rattle.theorems.proofs.Runs.{runs, messages-differ}
+use Rattle.theorems.proofs.Counts.{counts}
 use Rattle.forms.specs.Coded.{coded}
 use Rattle.forms.specs.RecordBytes.{recordLength, recordAt}
 use Rattle.forms.specs.StateBytes.{stateLength, stateBytes, stateAt}
@@ -37,7 +38,7 @@ use Rattle.forms.proofs.Back.{state-back, record-back}
 use Rattle.v91_c.specs.Interface.{lawOf, answered, frameAnswer, stateLeft, v91ReadCp, AfterSend, v91Send, AfterReceive, v91Receive}
 use Rattle.theorems_c.specs.Runs.{CSend, afterSend, cSends, cSendLeft, cMessage, cSent, CSendsWith, CReceive, afterReceive, cReceives}
 use Rattle.theorems_c.specs.Runs.{cReceiveLeft, cOctetsRead, cHandedOver, cMarksGiven, CReceivesWith, CRunsDeliver}
-use Rattle.theorems_c.specs.Runs.{CMessagesDiffer, CRecordRead}
+use Rattle.theorems_c.specs.Runs.{CRun, CMessagesDiffer, CCountsHold, CRecordRead}
 use Rattle.v91_c.proofs.Answers.{frame-short, frame-long}
 
 -- ---- two lists of calls: the accepted calls of one, with what each is for the other
@@ -87,15 +88,20 @@ module _ {S T C D : Type 0} {accepts : S → C → Bool} {left : S → C → S} 
           )
       go false e k = rw e (subst (λ (t : T). AllCalls accepts′ left′ P′ t (calls accepts left to (left s c) cs)) (follows .kept s c e) k)
 
--- ---- the line state in its bytes
+  -- the state left
+  same-left : (s : S) (cs : List C) → view (after left s cs) ≡ after left′ (view s) (calls accepts left to s cs)
+  unfolding overCalls calls after
+  same-left s [] = refl
+  same-left s (c ∷ cs) = same-left (left s c) cs ∙ go (accepts s c) refl
+    where
+      rest : List D
+      rest = calls accepts left to (left s c) cs
 
--- a history stays below 2 ^ 23
-after-lt : {F : Type 0} (next : LineState → F → LineState)
-    → ((st : LineState) (f : F) → st .history < 2 ^ 23 → next st f .history < 2 ^ 23)
-    → (st : LineState) (fs : List F) → st .history < 2 ^ 23 → after next st fs .history < 2 ^ 23
-unfolding after
-after-lt next small st [] h = h
-after-lt next small st (f ∷ fs) h = after-lt next small (next st f) fs (small st f h)
+      go : (b : Bool) → accepts s c ≡ b → after left′ (view (left s c)) rest ≡ after left′ (view s) (calls accepts left to s (c ∷ cs))
+      go true e = rw e (ap (λ (t : T). after left′ t rest) (follows .moved s c e))
+      go false e = rw e (ap (λ (t : T). after left′ t rest) (follows .kept s c e))
+
+-- ---- the line state in its bytes
 
 -- the bytes after an accepted call hold the state left
 left-held : (n : ℕ) (left : LineState) (s : List ℕ) → left .history < 2 ^ 23 → (n ≡ 0 → left ≡ stateAt s)
@@ -183,7 +189,9 @@ module _ (s : List ℕ) (c : CSend) where
   send-small t =
       let e = sends-own (stateAt s) (toSend c) t .state in
       let p = passed (recordAt (c .rec)) (stateAt s) (c .frames) _ _ t in
-      rw e (after-lt sendNext (λ st f h. pushAll-lt (st .history) _ h) (stateAt s) _ (leb-false (2 ^ 23) _ (p .history)))
+      rw e
+      (after-keeps sendNext (λ z. z .history < 2 ^ 23) (λ st f h. pushAll-lt (st .history) _ h) (stateAt s) _
+      (leb-false (2 ^ 23) _ (p .history)))
 
   send-none : sends (stateAt s) (toSend c) ≡ true → c .frames ≡ 0 → sendLeft (stateAt s) (toSend c) ≡ stateAt s
   unfolding sendAfter parts after
@@ -236,8 +244,9 @@ module _ (s : List ℕ) (c : CReceive) where
   receive-small t =
       let e = receives-own (stateAt s) (toReceive c) t .state in
       let p = passed (recordAt (c .rec)) (stateAt s) (c .frames) _ _ t in
-      rw e (after-lt (receiveNext (recordAt (c .rec)) (lawOf (c .aLaw))) (λ st f h. pushAll-lt (st .history) _ h) (stateAt s) _
-      (leb-false (2 ^ 23) _ (p .history)))
+      rw e
+      (after-keeps (receiveNext (recordAt (c .rec)) (lawOf (c .aLaw))) (λ z. z .history < 2 ^ 23)
+      (λ st f h. pushAll-lt (st .history) _ h) (stateAt s) _ (leb-false (2 ^ 23) _ (p .history)))
 
   receive-none : receives (stateAt s) (toReceive c) ≡ true → c .frames ≡ 0 → receiveLeft (stateAt s) (toReceive c) ≡ stateAt s
   unfolding receiveAfter parts after
@@ -277,24 +286,39 @@ module _ (s : List ℕ) (cs : List CReceive) where
 
 -- ---- demand 3
 
-pub c-runs : CRunsDeliver
-c-runs r l s t sending receiving w line m run =
-    rw (same-message s sending, same-given t receiving, same-marks t receiving)
-    (runs r l (stateAt s) (stateAt t) (sendCalls s sending) (receiveCalls t receiving) w line m
-    (record {
+same-run : (r : Record) (l : Law) (s t : List ℕ) (sending : List CSend) (receiving : List CReceive) (w : Damage) (line : List ℕ) (m : ℕ)
+    → CRun r l s t sending receiving w line m
+    → Run r l (stateAt s) (stateAt t) (sendCalls s sending) (receiveCalls t receiving) w line m
+same-run r l s t sending receiving w line m run =
+    record {
       sender = same-sender s sending r l (run .sender);
       receiver = same-receiver t receiving r l (run .receiver);
       carried = rw (same-sent s sending) at (run .carried);
       inside = run .inside;
       reads = sym (same-read t receiving) ∙ run .reads;
-    }))
+    }
+
+pub c-runs : CRunsDeliver
+c-runs r l s t sending receiving w line m run =
+    rw (same-message s sending, same-given t receiving, same-marks t receiving)
+    (runs r l (stateAt s) (stateAt t) (sendCalls s sending) (receiveCalls t receiving) w line m
+    (same-run r l s t sending receiving w line m run))
 
 pub c-messages-differ : CMessagesDiffer
-c-messages-differ r l s one other p q long octets =
+c-messages-differ r l s t one other k p q long octets =
     same-message s one
-    ∙ messages-differ r l (stateAt s) (sendCalls s one) (sendCalls s other) (same-sender s one r l p) (same-sender s other r l q)
-    (ap length (sym (same-message s one)) ∙ long ∙ ap length (same-message s other)) (sym (same-sent s one) ∙ octets ∙ same-sent s other)
-    ∙ sym (same-message s other)
+    ∙ messages-differ r l (stateAt s) (stateAt t) (sendCalls s one) (sendCalls t other) k (same-sender s one r l p)
+    (same-sender t other r l q) (ap length (sym (same-message s one)) ∙ long ∙ ap length (same-message t other))
+    (sym (same-sent s one) ∙ octets ∙ same-sent t other)
+    ∙ sym (same-message t other)
+
+-- ---- A.1
+
+pub c-counts : CCountsHold
+c-counts r l s t sending receiving w line m run marked begun =
+    rw (same-read t receiving, same-message s sending, same-given t receiving, same-marks t receiving, same-left receive-follows t receiving)
+    (counts r l (stateAt s) (stateAt t) (sendCalls s sending) (receiveCalls t receiving) w line m
+    (same-run r l s t sending receiving w line m run) (rw (same-sent s sending, same-marks t receiving) at marked) begun)
 
 -- ---- the record that v91_read_cp leaves
 

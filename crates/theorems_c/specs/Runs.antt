@@ -1,4 +1,4 @@
--- Document 01, 'Runs of calls', of the C functions themselves: demand 3 of a list of calls of v91_send and a list of calls of v91_receive.
+-- Document 01, 'Runs of calls', of the C functions themselves: demand 3, and A.1, of a list of calls of v91_send and one of v91_receive.
 -- The bytes of a line state go from call to call, and each call has the bytes of a record. Assumes nothing.
 use mathlib.Core.Path.{_≡_}
 use Prim.Native.Nat.{ℕ, _*_, _≤_}
@@ -6,12 +6,14 @@ use mathlib.Core.Bool.{Bool}
 use mathlib.Core.List.{List}
 use lib.Dec.{eqb}
 use lib.ListN.{length, take}
+use Rattle.standard.specs.Lists.{after}
 use Rattle.standard.specs.Bits.{bitsIn}
 use Rattle.standard.specs.Frame.{dataBits}
 use Rattle.standard.specs.Calls.{readCall, readRecord}
 use Rattle.standard.specs.declared.Law.{Law}
 use Rattle.standard.specs.declared.Record.{Record}
-use Rattle.theorems.specs.Runs.{overCalls, AllCalls, Damage, Carried, Delivered}
+use Rattle.theorems.specs.Runs.{overCalls, AllCalls, Damage, Carried, Same, Delivered}
+use Rattle.theorems.specs.Counts.{AlteredMarked, ColdOrSame, Counted}
 use Rattle.forms.specs.RecordBytes.{recordAt}
 use Rattle.forms.specs.StateBytes.{stateAt}
 use Rattle.v91_c.specs.Interface.{lawOf, v91ReadCp, AfterSend, v91Send, AfterReceive, v91Receive}
@@ -102,8 +104,19 @@ CRunsDeliver =
 -- 'so two different messages of one length never give the same octets'
 abbrev pub CMessagesDiffer : Type 0
 CMessagesDiffer =
-    (r : Record) (l : Law) (s : List ℕ) (one other : List CSend) → CSendsWith r l s one → CSendsWith r l s other
-    → length (cMessage s one) ≡ length (cMessage s other) → cSent s one ≡ cSent s other → cMessage s one ≡ cMessage s other
+    (r : Record) (l : Law) (s t : List ℕ) (one other : List CSend) → Same (stateAt s) (stateAt t) → CSendsWith r l s one
+    → CSendsWith r l t other → length (cMessage s one) ≡ length (cMessage t other) → cSent s one ≡ cSent t other
+    → cMessage s one ≡ cMessage t other
+
+-- A.1: what the count in the state's bytes is worth
+abbrev pub CCountsHold : Type 0
+CCountsHold =
+    (r : Record) (l : Law) (s t : List ℕ) (sending : List CSend) (receiving : List CReceive) (w : Damage) (line : List ℕ) (m : ℕ)
+    → CRun r l s t sending receiving w line m
+    → AlteredMarked m (cSent s sending) line (cMarksGiven t receiving)
+    → ColdOrSame (stateAt s) (stateAt t)
+    → Counted r l (stateAt t) m (cOctetsRead t receiving) (cMessage s sending) (cHandedOver t receiving) (cMarksGiven t receiving)
+    (stateAt (after cReceiveLeft t receiving))
 
 -- the record that those calls have, where its bytes are what v91_read_cp left
 abbrev pub CRecordRead : Type 0

@@ -25,9 +25,11 @@ pub(crate) fn law_at(e: Ends, words: &[u8], k: usize) -> Named {
     }
 }
 
-// What is asked: whole frames alone, progress shown, and how many bytes of data are wanted at most; and whether every word was understood.
+// What is asked: whole frames alone, a cold beginning, progress shown, and how many bytes of data are wanted at most; and whether every word
+// was understood.
 pub(crate) struct Asked {
     pub(crate) exact: bool,
+    pub(crate) cold: bool,
     pub(crate) shows: bool,
     pub(crate) wanted: u64,
     pub(crate) known: bool,
@@ -39,6 +41,7 @@ fn with_number(a: Asked, word: &[u8]) -> Asked {
     if let Number::Is(wanted) = number {
         return Asked {
             exact: a.exact,
+            cold: a.cold,
             shows: a.shows,
             wanted,
             known: a.known,
@@ -46,23 +49,33 @@ fn with_number(a: Asked, word: &[u8]) -> Asked {
     }
     Asked {
         exact: a.exact,
+        cold: a.cold,
         shows: a.shows,
         wanted: a.wanted,
         known: false,
     }
 }
 
-// With one word more: `exact`, `progress` or a number.
+// With one word more: `exact`, `cold`, `progress` or a number.
 fn with_word(a: Asked, word: &[u8]) -> Asked {
-    match words::which(b"exact\nprogress\n", b'\n', word) {
+    match words::which(b"exact\ncold\nprogress\n", b'\n', word) {
         1 => Asked {
             exact: true,
+            cold: a.cold,
             shows: a.shows,
             wanted: a.wanted,
             known: a.known,
         },
         2 => Asked {
             exact: a.exact,
+            cold: true,
+            shows: a.shows,
+            wanted: a.wanted,
+            known: a.known,
+        },
+        3 => Asked {
+            exact: a.exact,
+            cold: a.cold,
             shows: true,
             wanted: a.wanted,
             known: a.known,
@@ -76,6 +89,7 @@ pub(crate) fn asked_from(e: Ends, words: &[u8], k: usize) -> Asked {
     let count = words::part_count(words, 0);
     let mut a = Asked {
         exact: false,
+        cold: false,
         shows: e.shows,
         wanted: u64::MAX,
         known: true,

@@ -10,6 +10,9 @@ use console::is_over;
 use console::tell;
 use line::Received;
 use line::Sent;
+use standard::LineState;
+use streams::cold_state;
+use streams::fresh_state;
 
 // Says how many frames were sent, and the bits that were not or the zero bits in the last frame.
 fn say_sent(e: Ends, s: Sent) -> bool {
@@ -48,7 +51,7 @@ pub(crate) fn send(e: Ends, words: &[u8]) -> bool {
         return false;
     };
     let a = asked_from(e, words, 3);
-    if !a.known | (a.wanted != u64::MAX) {
+    if !a.known | a.cold | (a.wanted != u64::MAX) {
         return fail(
             e,
             b"after LAW send takes the words exact and progress alone",
@@ -80,7 +83,15 @@ fn say_received(e: Ends, s: Received) {
         report.frames,
         report.marked,
     );
-    tell_some(e, report.doubtful, b"# doubtful bit~ after marked frames");
+    if (report.marked != 0) | (report.doubtful != 0) {
+        tell(
+            e,
+            b"# bit~ of good frames doubtful in all",
+            report.doubtful,
+            0,
+        );
+    }
+    tell(e, b"# coming bit~ to distrust", s.coming as u64, 0);
     tell_some(
         e,
         s.waiting as u64,
@@ -97,7 +108,15 @@ fn all_came(e: Ends, asked: bool, wanted: u64) -> bool {
     fail(e, b"the input ended # byte~ of data too early", wanted)
 }
 
-// Receives as the words ask: CPFILE, LAW, and then BYTES and `progress` where they are wanted.
+// The line state that a receiver begins in.
+fn begun(cold: bool) -> LineState {
+    if cold {
+        return cold_state();
+    }
+    fresh_state()
+}
+
+// Receives as the words ask: CPFILE, LAW, and then BYTES, `cold` and `progress` where they are wanted.
 pub(crate) fn receive(e: Ends, words: &[u8]) -> bool {
     let named = law_at(e, words, 2);
     let Named::Is(law) = named else {
@@ -107,7 +126,7 @@ pub(crate) fn receive(e: Ends, words: &[u8]) -> bool {
     if !a.known | a.exact {
         return fail(
             e,
-            b"after LAW receive takes BYTES, a number of 1 to 18 digits, and the word progress alone",
+            b"after LAW receive takes BYTES, a number of 1 to 18 digits, and the words cold and progress alone",
             0,
         );
     }
@@ -115,7 +134,7 @@ pub(crate) fn receive(e: Ends, words: &[u8]) -> bool {
     if !loaded.found {
         return false;
     }
-    let got = line::receive_stream(e, loaded.record, law, a.wanted, a.shows);
+    let got = line::receive_stream(e, loaded.record, law, begun(a.cold), a.wanted, a.shows);
     say_received(e, got);
     let trouble = got.trouble;
     all_well(e, trouble) && all_came(e, a.wanted != u64::MAX, got.wanted)
@@ -128,7 +147,7 @@ pub(crate) fn linear(e: Ends, words: &[u8]) -> bool {
         return false;
     };
     let a = asked_from(e, words, 2);
-    if !a.known | a.exact | (a.wanted != u64::MAX) {
+    if !a.known | a.exact | a.cold | (a.wanted != u64::MAX) {
         return fail(e, b"after LAW linear takes the word progress alone", 0);
     }
     let sampled = line::linear_stream(e, law, a.shows);

@@ -1,6 +1,6 @@
 // Runs the calls on standard input through the frame sender, the frame receiver and the linear samples, and writes an answer line for
 // each. A line is lowercase hexadecimal; numbers have their low byte first; a record is 105 bytes, a law 1 (0 is µ-law), the frames 8,
-// a state 5 (history, last sign), a length 2, a refusal 2 (its number, 0 for none, and its value).
+// a state 6 (history, last sign, doubtful bits), a length 2, a refusal 2 (its number, 0 for none, and its value).
 // `02`, record, law, frames, state, length of the octet buffer, data: answered by refusal, state, octet buffer afterwards.
 // `03`, record, law, frames, state, lengths of the bits buffer and the marks buffer, octets: by refusal, state, both buffers afterwards.
 // `04`, law, length of the samples buffer, octets: by refusal and samples, 4 bytes each in two's complement.
@@ -31,7 +31,7 @@ fn law_of(number: u8) -> Law {
 
 // The record, the law, the frames and the state of a call.
 fn setup_at(call: &[u8]) -> Setup
-    requires { ⌜ 122 ≤ length (now call) ⌝ }
+    requires { ⌜ 123 ≤ length (now call) ⌝ }
 {
     let cp = forms::record_from(&call[1..]);
     let law = law_of(call[106]);
@@ -76,7 +76,7 @@ fn put_refusal(outcome: Outcome, reply: &mut [u8])
 
 // Puts the refusal and the state left.
 fn put_done(done: FramesDone, reply: &mut [u8])
-    requires { ⌜ 7 ≤ length (now reply) ⌝ }
+    requires { ⌜ 8 ≤ length (now reply) ⌝ }
 {
     let outcome = done.outcome;
     let state = done.state;
@@ -95,17 +95,17 @@ fn send_into(setup: Setup, bytes: &[u8], octets: &mut [u8]) -> FramesDone {
 
 // Answers a call of the sender; nothing where the call is too short or the reply has no room.
 fn answer_send(call: &[u8], reply: &mut [u8]) -> usize
-    requires { ⌜ 7 ≤ length (now reply) ⌝ }
+    requires { ⌜ 8 ≤ length (now reply) ⌝ }
     ensures { λ n. ⌜ n ≤ length (now (reply .entry)) ⌝ }
 {
-    if call.len() < 122 {
+    if call.len() < 123 {
         return 0;
     }
-    let end = 7 + two(call[120], call[121]);
+    let end = 8 + two(call[121], call[122]);
     if reply.len() < end {
         return 0;
     }
-    let done = send_into(setup_at(call), &call[122..], &mut reply[7..end]);
+    let done = send_into(setup_at(call), &call[123..], &mut reply[8..end]);
     put_done(done, reply);
     end
 }
@@ -122,14 +122,14 @@ fn receive_into(setup: Setup, octets: &[u8], bytes: &mut [u8], marks: &mut [u8])
 
 // Answers a call of the receiver, by way of `marks`; nothing where the call is too short or there is no room.
 fn answer_receive(call: &[u8], reply: &mut [u8], marks: &mut [u8]) -> usize
-    requires { ⌜ 7 ≤ length (now reply) ⌝ }
+    requires { ⌜ 8 ≤ length (now reply) ⌝ }
     ensures { λ n. ⌜ n ≤ length (now (reply .entry)) ⌝ }
 {
-    if call.len() < 124 {
+    if call.len() < 125 {
         return 0;
     }
-    let end = 7 + two(call[120], call[121]);
-    let count = two(call[122], call[123]);
+    let end = 8 + two(call[121], call[122]);
+    let count = two(call[123], call[124]);
     if marks.len() < count {
         return 0;
     }
@@ -139,8 +139,8 @@ fn answer_receive(call: &[u8], reply: &mut [u8], marks: &mut [u8]) -> usize
     }
     let done = receive_into(
         setup_at(call),
-        &call[124..],
-        &mut reply[7..end],
+        &call[125..],
+        &mut reply[8..end],
         &mut marks[0..count],
     );
     put_done(done, reply);
@@ -206,7 +206,7 @@ fn answer_linear(call: &[u8], reply: &mut [u8], samples: &mut [i32]) -> usize
 
 // Answers a call of any kind, and returns the reply's length; nothing where the call is too short or of no kind.
 fn answer_call(call: &[u8], reply: &mut [u8]) -> usize
-    requires { ⌜ 7 ≤ length (now reply) ⌝ }
+    requires { ⌜ 8 ≤ length (now reply) ⌝ }
     ensures { λ n. ⌜ n ≤ length (now (reply .entry)) ⌝ }
 {
     if call.len() < 4 {

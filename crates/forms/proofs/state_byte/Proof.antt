@@ -26,9 +26,13 @@ cast-result-3 c = search needs
 
 returns-2 : tie.Need-returns-2
 unfolding stateByte
-returns-2 c = rw (le-ltb _ _ (c .before .if1 .left))
+returns-2 c = rw (le-ltb _ _ (c .before .before .if1 .left), lt-ltb _ _ (c .before .if2 .taken))
+
+returns-3 : tie.Need-returns-3
+unfolding stateByte
+returns-3 c = rw (le-ltb _ _ (c .before .if1 .left), le-ltb _ _ (c .if2 .left))
 
 pub state-byte-spec : {M : Type 1} → statement M
 state-byte-spec =
     tie.close
-    (tie.spec mul-result cast-result shr-result cast-result-2 returns cast-result-3 returns-2)
+    (tie.spec mul-result cast-result shr-result cast-result-2 returns cast-result-3 returns-2 returns-3)

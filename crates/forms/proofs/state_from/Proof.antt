@@ -1,4 +1,4 @@
--- The history is a field of 32 bits, and the sign a byte. Assumes nothing.
+-- The history is a field of 32 bits, the sign and the count a byte each. Assumes nothing.
 use native.Mathlib.Omega.{arith}
 use lib.ListN.{getD}
 use Rattle.standard.specs.Bits.{bitAt}
@@ -18,9 +18,12 @@ cast-t3 c = omega (arith, field-lt (bitAt (c .before .before .args .bytes .now))
 shared-slice-read-t5 : tie.Need-shared-slice-read-t5
 shared-slice-read-t5 c = search needs
 
+shared-slice-read-t8 : tie.Need-shared-slice-read-t8
+shared-slice-read-t8 c = search needs
+
 returns : tie.Need-returns
 unfolding stateAt
-returns c = rw (positive-test (getD (c .before .before .before .args .bytes .now) 4 0), c .before .field-at .ensures)
+returns c = rw (positive-test (getD (c .before .before .before .before .args .bytes .now) 4 0), c .before .before .field-at .ensures)
 
 pub state-from-spec : {M : Type 1} → statement M
-state-from-spec = tie.close (tie.spec field-at-requires cast-t3 shared-slice-read-t5 returns)
+state-from-spec = tie.close (tie.spec field-at-requires cast-t3 shared-slice-read-t5 shared-slice-read-t8 returns)

@@ -14,9 +14,9 @@ returns : tie.Need-returns
 returns c =
     let b = c .before in
     let s = b .args .state in (
-      ap (λ (h : ℕ). record { history = h; sign = s .sign }) (ap turned (c .turn .ensures) ∙ turned-back (s .history) (b .pre)),
-      rw
-          (c .turn .ensures) (turned-lt (s .history)),
+      ap (λ (h : ℕ). record { history = h; sign = s .sign; doubtful = s .doubtful })
+          (ap turned (c .turn .ensures) ∙ turned-back (s .history) (b .pre)),
+      rw (c .turn .ensures) (turned-lt (s .history)),
     )
 
 pub carry-spec : {M : Type 1} → statement M

@@ -47,9 +47,9 @@ returns c r s =
     (outside-is r (a .law) os _ (s .labels) _ (c .before .before .before .labels-in .ensures) _ (out .ensures)) h in
     let p : 0 < mark r (a .law) os = rw e at h in (
       y .0 ∙ e,
-      marked-next r (a .law) os (a .line) p _ (s .mapped) _ (y .1) (y .2 ∙ sign),
+      marked-next r (a .law) os (a .line) p _ (s .mapped) _ (y .1) (y .2 ∙ sign) (y .3),
       rw (y .1) (turned-lt _),
-      y .3 ∙ marked-number r (a .law) os (a .line) p,
+      y .4 ∙ marked-number r (a .law) os (a .line) p,
     )
 
 number-of-requires : tie.Need-number-of-requires
@@ -78,9 +78,9 @@ returns-2 c r s =
     let e = mark-seventh r (a .law) os inside large in
     let p : 0 < mark r (a .law) os = omega arith in (
       y .0 ∙ sym e,
-      marked-next r (a .law) os (a .line) p _ (s .mapped) _ (y .1) (y .2 ∙ sign),
+      marked-next r (a .law) os (a .line) p _ (s .mapped) _ (y .1) (y .2 ∙ sign) (y .3),
       rw (y .1) (turned-lt _),
-      y .3 ∙ marked-number r (a .law) os (a .line) p,
+      y .4 ∙ marked-number r (a .law) os (a .line) p,
     )
 
 sign-bits-of-requires : tie.Need-sign-bits-of-requires
@@ -90,26 +90,30 @@ descramble-past-requires : tie.Need-descramble-past-requires
 descramble-past-requires c κs = let s = c .before .before .before .before .before .before .before .before .before .before .pre .0 .1 in
     (s .past, width-ge _ _ (s .mapped), width-le _ _ (s .mapped) (s .rate))
 
+doubtful-after-requires : tie.Need-doubtful-after-requires
+doubtful-after-requires c κs = tt
+
 returns-3 : tie.Need-returns-3
 returns-3 c r s =
-    let a = c .before .before .before .before .before .before .before .before .before .before .before .args in
+    let a = c .before .before .before .before .before .before .before .before .before .before .before .before .args in
     let os = a .octets .now in
     let h = turned (a .line .past) in
-    let found = c .before .before .before .before .before .before .labels-in .ensures in
-    let signs = c .before .before .before .before .before .before .before .before .signs-in .ensures in
-    let out = c .descramble-past .ensures .0 in
-    let left = c .descramble-past .ensures .1 in
-    let inside = sym (outside-is r (a .law) os _ (s .labels) _ found _ (c .before .before .before .before .before .mark-outside .ensures))
-    ∙ c .before .before .before .before .if1 .left in
-    let number = c .before .before .before .number-of .ensures ∙ number-is r (a .law) os _ (s .labels) _ found inside _ (s .mapped) in
-    let small = rw (limit-is r (a .law) os _ (s .mapped) (s .rate), number) at (c .before .before .if2 .left) in
+    let found = c .before .before .before .before .before .before .before .labels-in .ensures in
+    let signs = c .before .before .before .before .before .before .before .before .before .signs-in .ensures in
+    let out = c .before .descramble-past .ensures .0 in
+    let left = c .before .descramble-past .ensures .1 in
+    let inside = sym (outside-is r (a .law) os _ (s .labels) _ found _ (c .before .before .before .before .before .before .mark-outside .ensures))
+    ∙ c .before .before .before .before .before .if1 .left in
+    let number = c .before .before .before .before .number-of .ensures ∙ number-is r (a .law) os _ (s .labels) _ found inside _ (s .mapped) in
+    let small = rw (limit-is r (a .law) os _ (s .mapped) (s .rate), number) at (c .before .before .before .if2 .left) in
     let e = mark-good r (a .law) os inside small in
-    let sign-bits = c .before .sign-bits-of .ensures ∙ ap (λ (ts : List Bool). numberOf (signBits (a .line .sign) ts))
+    let sign-bits = c .before .before .sign-bits-of .ensures ∙ ap (λ (ts : List Bool). numberOf (signBits (a .line .sign) ts))
     (signs-are (signAt os) _ signs) in
     let bits = heard-bits r (a .law) os (a .line) e small _ (s .mapped) _ _ sign-bits number (s .rate) in (
       sym e,
-      heard-next r (a .law) os (a .line) e small _ (left ∙ ap (λ (bs : List Bool). turned (pushAll h bs)) bits)
-          (c .before .before .before .before .before .before .before .bit-of .ensures ∙ sign-is (signAt os) _ signs 5 (omega arith)),
+      heard-next r (a .law) os (a .line) e small _ (s .mapped) _ (left ∙ ap (λ (bs : List Bool). turned (pushAll h bs)) bits)
+          (c .before .before .before .before .before .before .before .before .bit-of .ensures ∙ sign-is (signAt os) _ signs 5 (omega arith))
+          (c .doubtful-after .ensures),
       rw left (turned-lt _),
       out ∙ ap (λ (bs : List Bool). numberOf (descramble h bs)) bits ∙ ap numberOf (heard-data r (a .law) os (a .line) e small),
     )
@@ -130,4 +134,5 @@ receive-frame-spec =
     returns-2
     sign-bits-of-requires
     descramble-past-requires
+    doubtful-after-requires
     returns-3)

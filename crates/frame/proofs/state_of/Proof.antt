@@ -9,7 +9,9 @@ turn-requires : tie.Need-turn-requires
 turn-requires c κs = search needs
 
 returns : tie.Need-returns
-returns c = ap (λ (h : ℕ). record { history = h; sign = c .before .args .line .sign }) (c .turn .ensures)
+returns c =
+    let x = c .before .args .carried in
+    ap (λ (h : ℕ). record { history = h; sign = x .sign; doubtful = x .doubtful }) (c .turn .ensures)
 
 pub state-of-spec : {M : Type 1} → statement M
 state-of-spec = tie.close (tie.spec turn-requires returns)

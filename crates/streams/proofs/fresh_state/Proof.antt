@@ -1,4 +1,4 @@
--- The fresh state is zero for both. Assumes nothing.
+-- The fresh state is zero for all. Assumes nothing.
 use mathlib.Core.Path.{refl}
 use Rattle.standard.specs.Frame.{fresh}
 use Rattle.streams.proofs.fresh_state.Statement.{statement}

@@ -15,15 +15,14 @@ returns : tie.Need-returns
 unfolding noted
 returns c =
     rw (
-      c .before .before .before .before .before .wrapping-add-u64 .ensures,
-      c .before .before .before .before .wrapping-add-u642 .ensures,
-      c .before .before .before .run-start .ensures,
-      c .before .wrapping-add-u643 .ensures,
-      c .before .before .doubtful-in .ensures,
-      c .doubtful-after .ensures,
+      c .before .before .before .before .wrapping-add-u64 .ensures,
+      c .before .before .before .wrapping-add-u642 .ensures,
+      c .before .before .run-start .ensures,
+      c .wrapping-add-u643 .ensures,
+      c .before .doubtful-in .ensures,
       one-if-not,
     )
 
 pub note-spec : {M : Type 1} → statement M
 note-spec =
-    tie.close (tie.spec (λ c κs. tt) (λ c. tt) (λ c κs. tt) (λ c κs. tt) (λ c κs. tt) (λ c κs. tt) (λ c κs. tt) returns)
+    tie.close (tie.spec (λ c κs. tt) (λ c. tt) (λ c κs. tt) (λ c κs. tt) (λ c κs. tt) (λ c κs. tt) returns)

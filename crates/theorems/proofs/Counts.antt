@@ -1,0 +1,142 @@
+-- A.1: the count in the receiver's state is right, and no call gets 18 for it. Assumes nothing.
+use mathlib.Core.Path.{_≡_, refl, sym, ap, _∙_, subst}
+use mathlib.Core.Logic.{_⊎_, inl, inr}
+use Prim.Native.Nat.{ℕ, zero, suc, _+_, _*_, _≤_, _<_}
+use mathlib.Core.Bool.{Bool, true, false}
+use mathlib.Core.List.{List, [], _∷_}
+use native.Mathlib.Omega.{arith}
+use borrow.Author.Tests.{ne-eqb}
+use lib.ListN.{length, getD, take}
+use lib.Seq.{take-all}
+use Rattle.standard.specs.Lists.{joined, each, parts, after}
+use Rattle.standard.specs.Bits.{nth}
+use Rattle.standard.specs.Record.{D}
+use Rattle.standard.specs.Frame.{dataBits, sendNext, sendAfter, receiveNext, receiveAfter, mark}
+use Rattle.standard.specs.Calls.{SendCall, sendRefusal, sendBits, sendLeft, ReceiveCall, receiveRefusal, receiveOctets, receiveLeft}
+use Rattle.standard.specs.declared.Law.{Law}
+use Rattle.standard.specs.declared.LineState.{LineState}
+use Rattle.standard.specs.declared.Record.{Record}
+use Rattle.standard.proofs.Lists.{parts-joined, after-keeps}
+use Rattle.standard.proofs.Frame.{send-doubtful, marked-doubtful, doubtful-le}
+use Rattle.standard.proofs.Refusals.{not-eighteen}
+use Rattle.theorems.specs.Runs.{sends, message, sent, receives, octetsRead, handedOver, marksGiven, Damage, Unaltered, Same, Run}
+use Rattle.theorems.specs.Counts.{Good, AlteredMarked, ColdOrSame, CountsHold, CountsKept}
+use Rattle.theorems.proofs.Ends.{start, counted}
+use Rattle.theorems.proofs.Doubt.{Near, near-any, near-same, link, link-doubtful, mends}
+use Rattle.theorems.proofs.OverCalls.{sized-fits, map-whole}
+use Rattle.theorems.proofs.Runs.{start-sized, sixes, S, Q, fs, ys, many, short, alone, mark-at}
+
+-- ---- a run in which every altered frame is marked
+
+near-begun : (s t : LineState) → ColdOrSame s t → Near (t .doubtful) s t
+near-begun s t (inl e) = subst (λ (c : ℕ). Near c s t) (sym e) (near-any s t)
+near-begun s t (inr e) = near-same (t .doubtful) s t e
+
+module _ (r : Record) (l : Law) (s t : LineState) (sending : List SendCall) (receiving : List ReceiveCall) (w : Damage) (line : List ℕ)
+    (m : ℕ) (u : Run r l s t sending receiving w line m) where
+  abbrev sentFrames : List (List Bool)
+  sentFrames = fs r l s t sending receiving w line m u
+
+  abbrev readFrames : List (List ℕ)
+  readFrames = ys r l s t sending receiving w line m u
+
+  frames-read : length readFrames ≡ m
+  frames-read = many r l s t sending receiving w line m u
+
+  frames-sent : length readFrames ≤ length sentFrames
+  frames-sent = short r l s t sending receiving w line m u
+
+  -- the state before frame i
+  state-before : (i : ℕ) → i ≤ m → receiveAfter r l i t (octetsRead t receiving) ≡ after (receiveNext r l) t (take i readFrames)
+  unfolding receiveAfter
+  state-before i h =
+      let q = Q r l s t sending receiving w line m u in
+      ap (λ (x : List ℕ). after (receiveNext r l) t (parts 6 i x)) (q .octets)
+      ∙ ap (after (receiveNext r l) t) (parts-joined 6 i readFrames (q .sized) (omega (arith, frames-read)))
+
+  abbrev Left : ℕ → Type 0
+  Left i = getD readFrames i [] ≡ getD (sixes r l s sentFrames) i []
+
+  abbrev Marked : List ℕ → Type 0
+  Marked y = mark r l y ≡ 0 → ⊥
+
+  module _ (o : AlteredMarked m (sent s sending) line (marksGiven t receiving)) where
+    marked-at : (i : ℕ) → i < length readFrames → Left i ⊎ Marked (getD readFrames i [])
+    marked-at i h = go (o i (omega (arith, frames-read)))
+      where
+        go : Unaltered (sent s sending) line i ⊎ (Good (marksGiven t receiving) i → ⊥) → Left i ⊎ Marked (getD readFrames i [])
+        go (inl a) = inl (alone r l s t sending receiving w line m u i h a)
+        go (inr b) = inr (λ e. b (mark-at r l s t sending receiving w line m u i (omega (arith, frames-read)) ∙ e))
+
+    good-left : (i : ℕ) → i < m → Good (marksGiven t receiving) i → Left i
+    good-left i h g = go (marked-at i (omega (arith, frames-read)))
+      where
+        go : Left i ⊎ Marked (getD readFrames i []) → Left i
+        go (inl a) = a
+        go (inr b) = absurd (b (sym (mark-at r l s t sending receiving w line m u i h) ∙ g))
+
+    past : ColdOrSame s t → (i : ℕ) → i < m → Good (marksGiven t receiving) i → (k : ℕ) → k < D r
+        → receiveAfter r l i t (octetsRead t receiving) .doubtful ≤ k
+        → nth (handedOver t receiving) (dataBits r i + k) ≡ nth (message s sending) (dataBits r i + k)
+    unfolding nth
+    past b i h g k v c =
+        let sender = S r l s t sending receiving w line m u in
+        let holds = sender .holds (omega (arith, frames-sent, frames-read)) in
+        let at : (j : ℕ) → j ≤ m → start (λ f. f) j sentFrames ≡ dataBits r j =
+        λ j q. start-sized (D r) j sentFrames (sender .sized) (omega (arith, frames-sent, frames-read)) in
+        let bits = counted (link r l holds) [] (mends r l) (λ z. z .doubtful) Marked (λ c a z f q n. link-doubtful r l holds c a z f q n)
+        (λ z y q. marked-doubtful r l y z (ne-eqb (mark r l y) 0 q)) i s t sentFrames readFrames (near-begun s t b)
+        (sized-fits sendNext (D r) s sentFrames (sender .sized)) frames-sent marked-at (omega (arith, frames-read)) (good-left i h g) k
+        (rw (← state-before i (omega arith)) c) (omega (arith, at i (omega arith), at (suc i) h)) in
+        ap (λ (x : List Bool). getD x (dataBits r i + k) false) (Q r l s t sending receiving w line m u .bits)
+        ∙ rw (at i (omega arith)) at bits
+        ∙ ap (λ (x : List (List Bool)). getD (joined x) (dataBits r i + k) false) (map-whole sentFrames)
+        ∙ ap (λ (x : List Bool). getD x (dataBits r i + k) false) (sym (sender .message))
+
+  shown : after receiveLeft t receiving ≡ receiveAfter r l m t (octetsRead t receiving)
+  shown =
+      Q r l s t sending receiving w line m u .state
+      ∙ ap (after (receiveNext r l) t) (sym (take-all m readFrames (omega (arith, frames-read))))
+      ∙ sym (state-before m (omega arith))
+
+pub counts : CountsHold
+counts r l s t sending receiving w line m u o b =
+    record { past = past r l s t sending receiving w line m u o b; shown = shown r l s t sending receiving w line m u }
+
+-- ---- any calls
+
+send-keeps : (n : ℕ) (st : LineState) (c : SendCall) → st .doubtful ≡ n → sendLeft st c .doubtful ≡ n
+unfolding sendLeft sendAfter
+send-keeps n st c e = go (sends st c) refl
+  where
+    go : (b : Bool) → sends st c ≡ b → sendLeft st c .doubtful ≡ n
+    go true q =
+        rw q
+        (after-keeps sendNext (λ z. z .doubtful ≡ n) (λ z f k. send-doubtful z f ∙ k) st (parts (D (c .cp)) (c .frames) (sendBits c)) e)
+    go false q = rw q e
+
+receive-keeps : (st : LineState) (c : ReceiveCall) → st .doubtful ≤ 24 → receiveLeft st c .doubtful ≤ 24
+unfolding receiveLeft receiveAfter
+receive-keeps st c h = go (receives st c) refl
+  where
+    go : (b : Bool) → receives st c ≡ b → receiveLeft st c .doubtful ≤ 24
+    go true q =
+        rw q
+        (after-keeps (receiveNext (c .cp) (c .law)) (λ z. z .doubtful ≤ 24) (λ z f. doubtful-le (c .cp) (c .law) f z) st
+        (parts 6 (c .frames) (receiveOctets c)) h)
+    go false q = rw q h
+
+pub counts-kept : CountsKept
+unfolding sendRefusal receiveRefusal
+counts-kept =
+    record {
+      carried = λ s cs. sent-count s cs;
+      kept = λ t cs h. after-keeps receiveLeft (λ z. z .doubtful ≤ 24) receive-keeps t cs h;
+      sender = λ s cs c h. not-eighteen (c .cp) (after sendLeft s cs) (c .frames) _ _ (rw (sent-count s cs) h);
+      receiver = λ t cs c h.
+          not-eighteen (c .cp) (after receiveLeft t cs) (c .frames) _ _
+          (after-keeps receiveLeft (λ z. z .doubtful ≤ 24) receive-keeps t cs h);
+    }
+  where
+    sent-count : (s : LineState) (cs : List SendCall) → after sendLeft s cs .doubtful ≡ s .doubtful
+    sent-count s cs = after-keeps sendLeft (λ z. z .doubtful ≡ s .doubtful) (send-keeps (s .doubtful)) s cs refl
