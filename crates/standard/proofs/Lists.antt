@@ -297,6 +297,19 @@ module _ {S F : Type 0} (next : S → F → S) where
   after-keeps P keeps st [] p = p
   after-keeps P keeps st (f ∷ fs) p = after-keeps P keeps (next st f) fs (keeps st f p)
 
+-- from two states in a relation that each step keeps, and in which each gives the same
+module _ {S F : Type 0} (R : S → S → Type 0) (next : S → F → S) (keeps : (s t : S) (f : F) → R s t → R (next s f) (next t f)) where
+  pub after-related : (s t : S) (fs : List F) → R s t → R (after next s fs) (after next t fs)
+  unfolding after
+  after-related s t [] p = p
+  after-related s t (f ∷ fs) p = after-related (next s f) (next t f) fs (keeps s t f p)
+
+  pub each-related : {Y : Type 0} (out : S → F → Y) → ((s t : S) (f : F) → R s t → out s f ≡ out t f) → (s t : S) (fs : List F) → R s t
+      → each out next s fs ≡ each out next t fs
+  unfolding each
+  each-related out same s t [] p = refl
+  each-related out same s t (f ∷ fs) p = ap₂ _∷_ (same s t f p) (each-related out same (next s f) (next t f) fs (keeps s t f p))
+
 -- what each gives has one length
 pub sized-each : {S F Y : Type 0} (out : S → F → List Y) (next : S → F → S) (v : ℕ) → ((st : S) (f : F) → length (out st f) ≡ v)
     → (st : S) (fs : List F) → Sized v (each out next st fs)

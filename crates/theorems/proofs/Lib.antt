@@ -3,6 +3,7 @@ pub mod Doubt
 pub mod OverCalls
 pub mod Runs
 pub mod Counts
+pub mod Alike
 pub mod Fewer
 pub mod Examples
 pub mod Ignored

@@ -58,3 +58,16 @@ pub record CountsKept : Type 0 where
       → sendRefusal (after sendLeft s cs) c .number ≡ 18 → ⊥
   pub receiver : (t : LineState) (cs : List ReceiveCall) (c : ReceiveCall) → t .doubtful ≤ 24
       → receiveRefusal (after receiveLeft t cs) c .number ≡ 18 → ⊥
+
+-- a differing count makes no two states differ: 'it changes no bit and no mark'
+
+-- two states that are the same but for the count, each with one up to 24
+abbrev pub Alike : LineState → LineState → Type 0
+Alike s t = Same s t × (s .doubtful ≤ 24) × (t .doubtful ≤ 24)
+
+-- begun in either, a list of calls reads and writes the same
+pub record CountAside : Type 0 where
+  pub given : (s t : LineState) (cs : List SendCall) → Alike s t → message s cs ≡ message t cs
+  pub octets : (s t : LineState) (cs : List SendCall) → Alike s t → sent s cs ≡ sent t cs
+  pub out : (s t : LineState) (cs : List ReceiveCall) → Alike s t → handedOver s cs ≡ handedOver t cs
+  pub marks : (s t : LineState) (cs : List ReceiveCall) → Alike s t → marksGiven s cs ≡ marksGiven t cs
