@@ -33,7 +33,7 @@ use Rattle.standard.proofs.Frame.{length-heardBits}
 use Rattle.standard.proofs.Words.{one-shifted, above-six, number-append, bits-number, zero-number}
 use Rattle.mapping.specs.declared.Mapping.{Mapping}
 use Rattle.mapping.specs.Tables.{mappingOf, labelOrNone, labelTables}
-use Rattle.mapping.proofs.Tables.{number-le, width-le, label-in, none-outside, label-inside}
+use Rattle.mapping.proofs.Tables.{number-le, label-in, none-outside, label-inside}
 use Rattle.frame.specs.declared.Carried.{Carried}
 use Rattle.coding.specs.Past.{turned}
 use Rattle.frame.specs.Parts.{stateOf, labelIn, noneTest}

@@ -6,21 +6,20 @@ use mathlib.Core.List.{List, [], _∷_, _++_}
 use borrow.Author.Tests.{le-ltb}
 use lib.Dec.{leb}
 use lib.ListN.{take}
-use Rattle.standard.specs.Lists.{parts, joined}
-use Rattle.standard.specs.First.{Answer, Test, test, first}
+use Rattle.standard.specs.Lists.{joined}
+use Rattle.standard.specs.First.{Test, test, first}
 use Rattle.standard.specs.Bits.{bitsIn, bytesOf, bytesFor, nth}
-use Rattle.standard.specs.Record.{D}
 use Rattle.standard.specs.Frame.{dataBits, lineBits, sendFrame, sendNext, receiveFrame, receiveNext, sendFrames, sendAfter, receiveFrames}
 use Rattle.standard.specs.Frame.{receiveAfter}
 use Rattle.standard.specs.Refusals.{framesAtCleardown, historyTooLarge, doubtfulTooLarge, tooManyFrames, recordTests, lineTests, bufferTests}
 use Rattle.standard.specs.Refusals.{frameTests}
 use Rattle.standard.specs.Calls.{accepted, over, SendCall, sendRefusal, sendBits, sendLeft, sendOctets, ReceiveCall, receiveRefusal}
-use Rattle.standard.specs.Calls.{receiveOctets, receiveLeft, receiveBytes, receiveMarked}
+use Rattle.standard.specs.Calls.{receiveLeft, receiveBytes, receiveMarked}
 use Rattle.standard.specs.declared.Law.{Law}
 use Rattle.standard.specs.declared.LineState.{LineState}
 use Rattle.standard.specs.declared.Record.{Record}
 use Rattle.standard.proofs.Lists.{after-related, each-related}
-use Rattle.standard.proofs.Frame.{send-doubtful, doubtful-le}
+use Rattle.standard.proofs.Frame.{doubtful-le}
 use Rattle.theorems.specs.Runs.{overCalls, sends, receives, message, sent, handedOver, marksGiven}
 use Rattle.theorems.specs.Counts.{Alike, CountAside}
 

@@ -1,14 +1,14 @@
 -- A.1: the count in the receiver's state is right, and no call gets 18 for it. Assumes nothing.
 use mathlib.Core.Path.{_≡_, refl, sym, ap, _∙_, subst}
 use mathlib.Core.Logic.{_⊎_, inl, inr}
-use Prim.Native.Nat.{ℕ, zero, suc, _+_, _*_, _≤_, _<_}
+use Prim.Native.Nat.{ℕ, suc, _+_, _≤_, _<_}
 use mathlib.Core.Bool.{Bool, true, false}
-use mathlib.Core.List.{List, [], _∷_}
+use mathlib.Core.List.{List, []}
 use native.Mathlib.Omega.{arith}
 use borrow.Author.Tests.{ne-eqb}
 use lib.ListN.{length, getD, take}
 use lib.Seq.{take-all}
-use Rattle.standard.specs.Lists.{joined, each, parts, after}
+use Rattle.standard.specs.Lists.{joined, parts, after}
 use Rattle.standard.specs.Bits.{nth}
 use Rattle.standard.specs.Record.{D}
 use Rattle.standard.specs.Frame.{dataBits, sendNext, sendAfter, receiveNext, receiveAfter, mark}
@@ -19,7 +19,7 @@ use Rattle.standard.specs.declared.Record.{Record}
 use Rattle.standard.proofs.Lists.{parts-joined, after-keeps}
 use Rattle.standard.proofs.Frame.{send-doubtful, marked-doubtful, doubtful-le}
 use Rattle.standard.proofs.Refusals.{not-eighteen}
-use Rattle.theorems.specs.Runs.{sends, message, sent, receives, octetsRead, handedOver, marksGiven, Damage, Unaltered, Same, Run}
+use Rattle.theorems.specs.Runs.{sends, message, sent, receives, octetsRead, handedOver, marksGiven, Damage, Unaltered, Run}
 use Rattle.theorems.specs.Counts.{Good, AlteredMarked, ColdOrSame, CountsHold, CountsKept}
 use Rattle.theorems.proofs.Ends.{start, counted}
 use Rattle.theorems.proofs.Doubt.{Near, near-any, near-same, link, link-doubtful, mends}

@@ -1,5 +1,5 @@
--- An instance of the premises of demand 3 and of A.1 for the C functions: a short record, a call of no frames and a flag byte of 2 between accepted calls.
--- Assumes nothing.
+-- An instance of the premises of demand 3 and of A.1 for the C functions: a short record, a call of no frames and a flag byte of 2 between
+-- accepted calls. Assumes nothing.
 use mathlib.Core.Path.{refl, sym}
 use mathlib.Core.Logic.{inl, inr}
 use Prim.Native.Nat.{ℕ}

@@ -1,5 +1,4 @@
 -- The parts of the code are those of the definition. Assumes nothing.
-use native.Mathlib.Omega.{arith}
 use borrow.Author.Needs.{needs}
 use Rattle.mapping.proofs.Tables.{width-le, width-ge, size-le}
 use Rattle.coding.proofs.Stream.{scrambled-lt}
