@@ -123,7 +123,7 @@ fn run_start(p: Report, mark: u8) -> u64
     p.frames
 }
 
-// How many bits of the next frame, of so many bits, are doubtful, where it is good and so many coming ones are.
+// How many bits of a frame of `width` bits are doubtful, where it is good and `coming` bits are doubtful before it.
 fn doubtful_in(width: u64, coming: u8, mark: u8) -> u64
     ensures { λ x. ⌜ x ≡ cond (eqb mark 0) (min width coming) 0 ⌝ }
 {

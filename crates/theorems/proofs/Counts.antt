@@ -32,76 +32,61 @@ near-begun : (s t : LineState) → ColdOrSame s t → Near (t .doubtful) s t
 near-begun s t (inl e) = subst (λ (c : ℕ). Near c s t) (sym e) (near-any s t)
 near-begun s t (inr e) = near-same (t .doubtful) s t e
 
-module _ (r : Record) (l : Law) (s t : LineState) (sending : List SendCall) (receiving : List ReceiveCall) (w : Damage) (line : List ℕ)
-    (m : ℕ) (u : Run r l s t sending receiving w line m) where
-  abbrev sentFrames : List (List Bool)
-  sentFrames = fs r l s t sending receiving w line m u
-
-  abbrev readFrames : List (List ℕ)
-  readFrames = ys r l s t sending receiving w line m u
-
-  frames-read : length readFrames ≡ m
-  frames-read = many r l s t sending receiving w line m u
-
-  frames-sent : length readFrames ≤ length sentFrames
-  frames-sent = short r l s t sending receiving w line m u
-
+module _ {r : Record} {l : Law} {s t : LineState} {sending : List SendCall} {receiving : List ReceiveCall} {w : Damage} {line : List ℕ}
+    {m : ℕ} (u : Run r l s t sending receiving w line m) where
   -- the state before frame i
-  state-before : (i : ℕ) → i ≤ m → receiveAfter r l i t (octetsRead t receiving) ≡ after (receiveNext r l) t (take i readFrames)
+  state-before : (i : ℕ) → i ≤ m → receiveAfter r l i t (octetsRead t receiving) ≡ after (receiveNext r l) t (take i (ys u))
   unfolding receiveAfter
   state-before i h =
-      let q = Q r l s t sending receiving w line m u in
-      ap (λ (x : List ℕ). after (receiveNext r l) t (parts 6 i x)) (q .octets)
-      ∙ ap (after (receiveNext r l) t) (parts-joined 6 i readFrames (q .sized) (omega (arith, frames-read)))
+      ap (λ (x : List ℕ). after (receiveNext r l) t (parts 6 i x)) (Q u .octets)
+      ∙ ap (after (receiveNext r l) t) (parts-joined 6 i (ys u) (Q u .sized) (omega (arith, many u)))
 
   abbrev Left : ℕ → Type 0
-  Left i = getD readFrames i [] ≡ getD (sixes r l s sentFrames) i []
+  Left i = getD (ys u) i [] ≡ getD (sixes r l s (fs u)) i []
 
   abbrev Marked : List ℕ → Type 0
   Marked y = mark r l y ≡ 0 → ⊥
 
   module _ (o : AlteredMarked m (sent s sending) line (marksGiven t receiving)) where
-    marked-at : (i : ℕ) → i < length readFrames → Left i ⊎ Marked (getD readFrames i [])
-    marked-at i h = go (o i (omega (arith, frames-read)))
+    marked-at : (i : ℕ) → i < length (ys u) → Left i ⊎ Marked (getD (ys u) i [])
+    marked-at i h = go (o i (omega (arith, many u)))
       where
-        go : Unaltered (sent s sending) line i ⊎ (Good (marksGiven t receiving) i → ⊥) → Left i ⊎ Marked (getD readFrames i [])
-        go (inl a) = inl (alone r l s t sending receiving w line m u i h a)
-        go (inr b) = inr (λ e. b (mark-at r l s t sending receiving w line m u i (omega (arith, frames-read)) ∙ e))
+        go : Unaltered (sent s sending) line i ⊎ (Good (marksGiven t receiving) i → ⊥) → Left i ⊎ Marked (getD (ys u) i [])
+        go (inl a) = inl (alone u i h a)
+        go (inr b) = inr (λ e. b (mark-at u i (omega (arith, many u)) ∙ e))
 
     good-left : (i : ℕ) → i < m → Good (marksGiven t receiving) i → Left i
-    good-left i h g = go (marked-at i (omega (arith, frames-read)))
+    good-left i h g = go (marked-at i (omega (arith, many u)))
       where
-        go : Left i ⊎ Marked (getD readFrames i []) → Left i
+        go : Left i ⊎ Marked (getD (ys u) i []) → Left i
         go (inl a) = a
-        go (inr b) = absurd (b (sym (mark-at r l s t sending receiving w line m u i h) ∙ g))
+        go (inr b) = absurd (b (sym (mark-at u i h) ∙ g))
 
     past : ColdOrSame s t → (i : ℕ) → i < m → Good (marksGiven t receiving) i → (k : ℕ) → k < D r
         → receiveAfter r l i t (octetsRead t receiving) .doubtful ≤ k
         → nth (handedOver t receiving) (dataBits r i + k) ≡ nth (message s sending) (dataBits r i + k)
     unfolding nth
     past b i h g k v c =
-        let sender = S r l s t sending receiving w line m u in
-        let holds = sender .holds (omega (arith, frames-sent, frames-read)) in
-        let at : (j : ℕ) → j ≤ m → start (λ f. f) j sentFrames ≡ dataBits r j =
-        λ j q. start-sized (D r) j sentFrames (sender .sized) (omega (arith, frames-sent, frames-read)) in
+        let holds = S u .holds (omega (arith, short u, many u)) in
+        let at : (j : ℕ) → j ≤ m → start (λ f. f) j (fs u) ≡ dataBits r j =
+        λ j q. start-sized (D r) j (fs u) (S u .sized) (omega (arith, short u, many u)) in
         let bits = counted (link r l holds) [] (mends r l) (λ z. z .doubtful) Marked (λ c a z f q n. link-doubtful r l holds c a z f q n)
-        (λ z y q. marked-doubtful r l y z (ne-eqb (mark r l y) 0 q)) i s t sentFrames readFrames (near-begun s t b)
-        (sized-fits sendNext (D r) s sentFrames (sender .sized)) frames-sent marked-at (omega (arith, frames-read)) (good-left i h g) k
+        (λ z y q. marked-doubtful r l y z (ne-eqb (mark r l y) 0 q)) i s t (fs u) (ys u) (near-begun s t b)
+        (sized-fits sendNext (D r) s (fs u) (S u .sized)) (short u) marked-at (omega (arith, many u)) (good-left i h g) k
         (rw (← state-before i (omega arith)) c) (omega (arith, at i (omega arith), at (suc i) h)) in
-        ap (λ (x : List Bool). getD x (dataBits r i + k) false) (Q r l s t sending receiving w line m u .bits)
+        ap (λ (x : List Bool). getD x (dataBits r i + k) false) (Q u .bits)
         ∙ rw (at i (omega arith)) at bits
-        ∙ ap (λ (x : List (List Bool)). getD (joined x) (dataBits r i + k) false) (map-whole sentFrames)
-        ∙ ap (λ (x : List Bool). getD x (dataBits r i + k) false) (sym (sender .message))
+        ∙ ap (λ (x : List (List Bool)). getD (joined x) (dataBits r i + k) false) (map-whole (fs u))
+        ∙ ap (λ (x : List Bool). getD x (dataBits r i + k) false) (sym (S u .message))
 
   shown : after receiveLeft t receiving ≡ receiveAfter r l m t (octetsRead t receiving)
   shown =
-      Q r l s t sending receiving w line m u .state
-      ∙ ap (after (receiveNext r l) t) (sym (take-all m readFrames (omega (arith, frames-read))))
+      Q u .state
+      ∙ ap (after (receiveNext r l) t) (sym (take-all m (ys u) (omega (arith, many u))))
       ∙ sym (state-before m (omega arith))
 
 pub counts : CountsHold
-counts r l s t sending receiving w line m u o b =
-    record { past = past r l s t sending receiving w line m u o b; shown = shown r l s t sending receiving w line m u }
+counts r l s t sending receiving w line m u o b = record { past = past u o b; shown = shown u }
 
 -- ---- any calls
 

@@ -124,8 +124,8 @@ getD-map f (x ∷ xs) d (suc i) h = getD-map f xs d i (omega arith)
 beyond-clean : (w : Damage) (f : ℕ → ℕ) (p : ℕ) → w ≡ clean → Beyond w f p
 beyond-clean w f p e = subst (λ (x : Damage). Beyond x f p) (sym e) tt
 
-module _ (r : Record) (l : Law) (s t : LineState) (sending : List SendCall) (receiving : List ReceiveCall) (w : Damage) (line : List ℕ)
-    (m : ℕ) (u : Run r l s t sending receiving w line m) where
+module _ {r : Record} {l : Law} {s t : LineState} {sending : List SendCall} {receiving : List ReceiveCall} {w : Damage} {line : List ℕ}
+    {m : ℕ} (u : Run r l s t sending receiving w line m) where
   abbrev pub S : SendRun r l s (message s sending) (sent s sending)
   S = send-run r l s sending (u .sender)
 
@@ -201,7 +201,7 @@ module _ (r : Record) (l : Law) (s t : LineState) (sending : List SendCall) (rec
       }
 
 pub runs : RunsDeliver
-runs = deliver
+runs r l s t sending receiving w line m u = deliver u
 
 -- ---- two messages
 
