@@ -19,7 +19,7 @@ fn refused(outcome: Outcome, state: LineState) -> FramesDone
     }
 }
 
-// The entry: turns frames * D data bits into 6 * frames octets. Refusals 4, 9, 10, 25 and 11 to 17, the first that applies.
+// The entry: turns frames * D data bits into 6 * frames octets. Refusals 4, 9, 10, 25, 11 to 14, 18 and 15 to 17, the first that applies.
 pub fn send(
     r: Record,
     law: Law,
@@ -49,8 +49,8 @@ pub fn send(
     }
 }
 
-// The entry: turns 6 * frames octets into frames * D data bits and a mark for each frame. Refusals 4, 9, 10, 25 and 11 to 17, the first
-// that applies.
+// The entry: turns 6 * frames octets into frames * D data bits and a mark for each frame. Refusals 4, 9, 10, 25, 11 to 14, 18 and 15 to 17,
+// the first that applies.
 pub fn receive(
     r: Record,
     law: Law,
