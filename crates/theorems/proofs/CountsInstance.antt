@@ -4,7 +4,7 @@ use mathlib.Core.Path.{_≡_, refl, sym, ap, _∙_}
 use mathlib.Core.Logic.{_⊎_, inl, inr}
 use Prim.Native.Nat.{ℕ, zero, suc, _+_, _*_, _<_}
 use mathlib.Core.Bool.{true, true≢false}
-use mathlib.Core.List.{List, [], _∷_, _++_}
+use mathlib.Core.List.{List, [], _∷_}
 use native.Mathlib.Nat.{suc-ne-zero}
 use native.Mathlib.Omega.{arith}
 use lib.Dec.{lit≤}
@@ -45,11 +45,23 @@ sending =
     send 2000 [] ∷
     send 3 (0x55 ∷ 0xaa ∷ 0x12 ∷ 0x34 ∷ 0x56 ∷ 0x78 ∷ 0x9a ∷ 0xbc ∷ []) ∷ []
 
--- what the line makes of it: in frame 0 the Ucode of interval 1 is outside its mask, in frame 3 the number R is 2 ^ K or more
+-- the five frames that they send, one a line
+abbrev octets : List ℕ
+octets =
+    0xfa ∷ 0xfc ∷ 0xfb ∷ 0xfd ∷ 0xff ∷ 0xfa ∷
+    0xff ∷ 0xfe ∷ 0x7b ∷ 0x7e ∷ 0x7e ∷ 0xfd ∷
+    0x7d ∷ 0x7c ∷ 0x7c ∷ 0xff ∷ 0xfe ∷ 0xfa ∷
+    0xfd ∷ 0x7c ∷ 0xff ∷ 0x7a ∷ 0xfc ∷ 0x7a ∷
+    0xfb ∷ 0xfe ∷ 0xfc ∷ 0x7b ∷ 0xfb ∷ 0x7a ∷ []
+
+-- what the line makes of them: in frame 0 the Ucode of interval 1 is outside its mask, in frame 3 the number R is 2 ^ K or more
 abbrev delivered : List ℕ
 delivered =
-    let xs = sent fresh sending in
-    (0xff ∷ 0x12 ∷ 0x7a ∷ 0 ∷ 3 ∷ 0xff ∷ take 12 (drop 6 xs)) ++ (0xff ∷ 0xff ∷ 0xff ∷ 0xff ∷ 0xff ∷ 0xff ∷ drop 24 xs)
+    0xff ∷ 0x12 ∷ 0x7a ∷ 0x00 ∷ 0x03 ∷ 0xff ∷
+    0xff ∷ 0xfe ∷ 0x7b ∷ 0x7e ∷ 0x7e ∷ 0xfd ∷
+    0x7d ∷ 0x7c ∷ 0x7c ∷ 0xff ∷ 0xfe ∷ 0xfa ∷
+    0xff ∷ 0xff ∷ 0xff ∷ 0xff ∷ 0xff ∷ 0xff ∷
+    0xfb ∷ 0xfe ∷ 0xfc ∷ 0x7b ∷ 0xfb ∷ 0x7a ∷ []
 
 -- a receiver told that it begins cold, in another history and sign than the sender
 abbrev begun : LineState
@@ -62,17 +74,13 @@ receive n xs = record { cp = common; law = Mu; frames = n; octets = xs; bytes = 
 abbrev receiving : List ReceiveCall
 receiving = receive 3 (take 18 delivered) ∷ receive 1 [] ∷ receive 2 (drop 18 delivered) ∷ []
 
--- a frame whose six octets are those sent
-alone : (xs ys : List ℕ) (i : ℕ) → take 6 (drop (i * 6) ys) ≡ take 6 (drop (i * 6) xs) → Unaltered xs ys i
-alone xs ys i e k h = sym (at ys) ∙ ap (λ (x : List ℕ). getD x k 0) e ∙ at xs
-  where
-    at : (zs : List ℕ) → getD (take 6 (drop (i * 6) zs)) k 0 ≡ getD zs (i * 6 + k) 0
-    at zs = getD-take 6 (drop (i * 6) zs) k 0 h ∙ getD-drop (i * 6) zs k 0
-
--- A.1's premises; the count before each frame, and after the last: a marked frame sets it to 24, and a good one lowers it by 21, not below 0
-instance : Run common Mu fresh begun sending receiving (frames 0 4) delivered 5
+-- what the calls come to, and the count before each frame and after the last: a marked frame sets it to 24, and a good one lowers it by 21,
+-- not below 0
+computed : SendsWith common Mu fresh sending
+    × (sent fresh sending ≡ octets)
+    × ReceivesWith common Mu begun receiving
+    × (octetsRead begun receiving ≡ delivered)
     × (marksGiven begun receiving ≡ 2 ∷ 0 ∷ 0 ∷ 7 ∷ 0 ∷ [])
-    × Unaltered (sent fresh sending) delivered 1 × Unaltered (sent fresh sending) delivered 2 × Unaltered (sent fresh sending) delivered 4
     × (listFrom (λ i. receiveAfter common Mu i begun delivered .doubtful) 0 6 ≡ 24 ∷ 24 ∷ 3 ∷ 0 ∷ 24 ∷ 3 ∷ [])
 unfolding listFrom any largest parts joined each after first bitAt bitsIn field bytesOf nth numberOf bitsOf topIndex inMask taps push
     pushAll scramble descramble sizeOf labelOf pointOf member sizes product labels number signsOf signBits positiveOctet octet signOf
@@ -81,34 +89,48 @@ unfolding listFrom any largest parts joined each after first bitAt bitsIn field 
     grantedBelowFullRate intervalEmpty productTooSmall maskAboveIndices framesAtCleardown historyTooLarge doubtfulTooLarge tooManyFrames
     emptyTest emptyTests rateTests recordTests lineTests bufferTests frameTests sendRefusal sendBits sendLeft sendOctets receiveRefusal
     receiveOctets receiveLeft receiveBytes receiveMarked overCalls AllCalls sent octetsRead marksGiven SendsWith ReceivesWith Carried
-instance = (
-  record {
-    sender = (λ e. (refl, refl), (λ e. absurd (true≢false (sym e)), (λ e. (refl, refl), tt)));
-    receiver = (λ e. (refl, refl), (λ e. absurd (true≢false (sym e)), (λ e. (refl, refl), tt)));
-    carried = (refl, λ i o k h. end delivered i k o refl ∙ sym (end (sent fresh sending) i k o refl));
-    inside = lit≤ tt;
-    reads = refl;
-  },
+computed = (
+  (λ e. (refl, refl), (λ e. absurd (true≢false (sym e)), (λ e. (refl, refl), tt))),
   refl,
-  alone (sent fresh sending) delivered 1 refl,
-  alone (sent fresh sending) delivered 2 refl,
-  alone (sent fresh sending) delivered 4 refl,
+  (λ e. (refl, refl), (λ e. absurd (true≢false (sym e)), (λ e. (refl, refl), tt))),
+  refl,
+  refl,
   refl,
 )
+
+-- a frame whose six octets are those sent
+alone : (xs ys : List ℕ) (i : ℕ) → take 6 (drop (i * 6) ys) ≡ take 6 (drop (i * 6) xs) → Unaltered xs ys i
+alone xs ys i e k h = sym (at ys) ∙ ap (λ (x : List ℕ). getD x k 0) e ∙ at xs
+  where
+    at : (zs : List ℕ) → getD (take 6 (drop (i * 6) zs)) k 0 ≡ getD zs (i * 6 + k) 0
+    at zs = getD-take 6 (drop (i * 6) zs) k 0 h ∙ getD-drop (i * 6) zs k 0
+
+run : Run common Mu fresh begun sending receiving (frames 0 4) delivered 5
+unfolding Carried
+run =
+    record {
+      sender = computed .0;
+      receiver = computed .2;
+      carried = rw (computed .1) (refl, λ i o k h. end delivered i k o refl ∙ sym (end octets i k o refl));
+      inside = lit≤ tt;
+      reads = computed .3;
+    }
   where
     end : (xs : List ℕ) (i k : ℕ) → (i < 0) ⊎ (4 < i) → length xs ≡ 30 → getD xs (i * 6 + k) 0 ≡ 0
     end xs i k (inl h) e = absurd (omega arith)
     end xs i k (inr h) e = List·getD-eq-default xs 0 {n = i * 6 + k} (omega arith)
 
-marked-or-sent : AlteredMarked 5 (sent fresh sending) delivered (marksGiven begun receiving)
-marked-or-sent zero h = inr (λ g. suc-ne-zero 1 (sym (ap (λ (x : List ℕ). getD x 0 0) (instance .1)) ∙ g))
-marked-or-sent (suc zero) h = inl (instance .2)
-marked-or-sent (suc (suc zero)) h = inl (instance .3)
-marked-or-sent (suc (suc (suc zero))) h = inr (λ g. suc-ne-zero 6 (sym (ap (λ (x : List ℕ). getD x 3 0) (instance .1)) ∙ g))
-marked-or-sent (suc (suc (suc (suc zero)))) h = inl (instance .4)
+marked-or-sent : AlteredMarked 5 octets delivered (2 ∷ 0 ∷ 0 ∷ 7 ∷ 0 ∷ [])
+marked-or-sent zero h = inr (suc-ne-zero 1)
+marked-or-sent (suc zero) h = inl (alone octets delivered 1 refl)
+marked-or-sent (suc (suc zero)) h = inl (alone octets delivered 2 refl)
+marked-or-sent (suc (suc (suc zero))) h = inr (suc-ne-zero 6)
+marked-or-sent (suc (suc (suc (suc zero)))) h = inl (alone octets delivered 4 refl)
 marked-or-sent (suc (suc (suc (suc (suc i))))) h = absurd (omega arith)
 
 -- and what it concludes: bits 3 to 20 of frame 2, past the count 3 before it, are those sent, and none of frames 1 and 4 need be
 pub instance-counted : Counted common Mu begun 5 (octetsRead begun receiving) (message fresh sending) (handedOver begun receiving)
     (marksGiven begun receiving) (after receiveLeft begun receiving)
-instance-counted = counts common Mu fresh begun sending receiving (frames 0 4) delivered 5 (instance .0) marked-or-sent (inl refl)
+instance-counted =
+    counts common Mu fresh begun sending receiving (frames 0 4) delivered 5 run
+    (rw (computed .1, computed .4) marked-or-sent) (inl refl)

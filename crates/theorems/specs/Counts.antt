@@ -59,9 +59,8 @@ pub record CountsKept : Type 0 where
   pub receiver : (t : LineState) (cs : List ReceiveCall) (c : ReceiveCall) → t .doubtful ≤ 24
       → receiveRefusal (after receiveLeft t cs) c .number ≡ 18 → ⊥
 
--- a differing count makes no two states differ: 'it changes no bit and no mark'
-
--- two states that are the same but for the count, each with one up to 24
+-- a differing count makes no two states differ: it changes no bit and no mark. Two states that are the same but for the count, each with one
+-- up to 24
 abbrev pub Alike : LineState → LineState → Type 0
 Alike s t = Same s t × (s .doubtful ≤ 24) × (t .doubtful ≤ 24)
 
