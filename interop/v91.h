@@ -29,7 +29,7 @@
  * its own. They allocate nothing, call no function but memset, and return. The stack is to be aligned to 16
  * bytes at the call, as the convention says. SSE registers are used (xmm0 to xmm15), so an interrupt that
  * calls a function has to save them; so is the red zone, 128 bytes below the stack pointer. Measured by
- * interop/footprint in calls of 1,024 frames with six full masks, the red zone included: 20,920 bytes of
+ * interop/footprint in calls of 1,024 frames with six full masks, the red zone included: 20,888 bytes of
  * code and 752 of constants; of stack 576 bytes (v91_write_cp), 688 (v91_read_cp), 2,640 (v91_send), 2,592
  * (v91_receive), 8 (v91_linear), 144 (v91_send_dil) and 56 (v91_plan).
  */

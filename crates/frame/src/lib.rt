@@ -30,10 +30,11 @@ ghost use Rattle.standard.specs.declared.Record.{Record};
 ghost use Rattle.coding.specs.Past.{turned};
 ghost use Rattle.frame.specs.Parts.{stateOf, Sendable, Receivable, octetIn, labelIn, noneTest};
 
-// A line state on its way through a call: its history in the order of time, the last sign, and how many coming data bits are doubtful.
+// A line state on its way through a call: the last sign, its history in the order of time, and how many coming data bits are doubtful.
+// In this order the compiler keeps the three apart.
 pub struct Carried {
-    pub past: u32,
     pub sign: bool,
+    pub past: u32,
     pub doubtful: u8,
 }
 
