@@ -29,7 +29,7 @@ use Rattle.standard.proofs.First.{same-number, first-left, none-first, none-at,
 use Rattle.standard.proofs.Bits.{numberOf-lt, bits-back}
 use Rattle.standard.proofs.Octets.{ucode-lt}
 use Rattle.standard.proofs.Signs.{length-signBits}
-use Rattle.standard.proofs.Frame.{length-heardBits}
+use Rattle.standard.proofs.Frame.{same-state, length-heardBits}
 use Rattle.standard.proofs.Words.{one-shifted, above-six, number-append, bits-number, zero-number}
 use Rattle.mapping.specs.declared.Mapping.{Mapping}
 use Rattle.mapping.specs.Tables.{mappingOf, labelOrNone, labelTables}
@@ -38,12 +38,6 @@ use Rattle.frame.specs.declared.Carried.{Carried}
 use Rattle.coding.specs.Past.{turned}
 use Rattle.frame.specs.Parts.{stateOf, labelIn, noneTest}
 use Rattle.coding.proofs.Stream.{turned-lt, from-past}
-
--- a line state is its three parts
-same-state : (s t : LineState) → s .history ≡ t .history → s .sign ≡ t .sign → s .doubtful ≡ t .doubtful → s ≡ t
-same-state s t eh es ed =
-    ap₂ (λ (h : ℕ) (g : Bool). record { history = h; sign = g; doubtful = s .doubtful }) eh es
-    ∙ ap (λ (d : ℕ). record { history = t .history; sign = t .sign; doubtful = d }) ed
 
 -- ---- the number of six labels, from label 5 down to label 0
 

@@ -24,7 +24,7 @@ use Rattle.standard.proofs.Scrambler.{length-scramble}
 use Rattle.standard.proofs.Signs.{length-signsOf}
 use Rattle.standard.proofs.Modulus.{within-at, labels-within}
 use Rattle.standard.proofs.Constellation.{point-lt}
-use Rattle.standard.proofs.Frame.{length-sizes}
+use Rattle.standard.proofs.Frame.{same-state, length-sizes}
 use Rattle.standard.proofs.Words.{number-bit, number-take, number-drop}
 use Rattle.mapping.specs.declared.Mapping.{Mapping}
 use Rattle.mapping.specs.Tables.{mappingOf}
@@ -104,5 +104,4 @@ module _ (r : Record) (l : Law) (m : Mapping) (vs : List ℕ) (ps : List (List �
       unfolding sendNext lineBits
       sent-state t et =
           let pushed = from-past (st .history) q (scramble (st .history) (bitsOf (m .d) word)) (turned-lt (x .past)) (sent .left) in
-          ap₂ (λ (y : ℕ) (z : Bool). record { history = y; sign = z; doubtful = x .doubtful })
-          (pushed ∙ ap (pushAll (st .history)) same-bits) (et ∙ sign-is 5 (omega arith))
+          same-state _ _ (pushed ∙ ap (pushAll (st .history)) same-bits) (et ∙ sign-is 5 (omega arith)) refl

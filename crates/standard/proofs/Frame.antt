@@ -1,7 +1,7 @@
 -- Laws of a data frame, there and back, and of N frames. Assumes nothing.
-use mathlib.Core.Path.{_≡_, refl, sym, ap, _∙_}
+use mathlib.Core.Path.{_≡_, refl, sym, ap, ap₂, _∙_}
 use Prim.Native.Nat.{ℕ, _+_, _*_, _-_, _^_, _≤_, _<_}
-use mathlib.Core.Bool.{Bool, true, false, cond, not}
+use mathlib.Core.Bool.{Bool, true, false, not}
 use mathlib.Core.List.{List, [], _∷_, _++_, map-append}
 use native.Mathlib.Nat.{le-trans, zero-add}
 use native.Mathlib.Omega.{arith}
@@ -13,7 +13,7 @@ use Rattle.standard.specs.Lists.{listFrom, parts, each, after}
 use Rattle.standard.specs.First.{Test, test}
 use Rattle.standard.specs.Bits.{nth, numberOf, bitsOf}
 use Rattle.standard.specs.Record.{K, D}
-use Rattle.standard.specs.Scrambler.{pushAll, descramble}
+use Rattle.standard.specs.Scrambler.{pushAll}
 use Rattle.standard.specs.Constellation.{member, size, label, point, sizes}
 use Rattle.standard.specs.Modulus.{product, number}
 use Rattle.standard.specs.Signs.{signsOf, signBits}
@@ -25,7 +25,7 @@ use Rattle.standard.specs.declared.Law.{Law}
 use Rattle.standard.specs.declared.LineState.{LineState}
 use Rattle.standard.specs.declared.Record.{Record}
 use Rattle.standard.proofs.Lists.{length-listFrom, getD-list, listFrom-is, joined-snoc, length-joined, length-parts, parts-snoc}
-use Rattle.standard.proofs.Lists.{each-append, after-append, length-each, sized-each}
+use Rattle.standard.proofs.Lists.{each-append, after-append, of-either, length-each, sized-each}
 use Rattle.standard.proofs.First.{None, same-number, first-hit, first-none, none-append, none-listFrom, first-append}
 use Rattle.standard.proofs.Bits.{numberOf-lt, bits-back, length-bitsOf}
 use Rattle.standard.proofs.Scrambler.{length-scramble, length-descramble}
@@ -67,7 +67,13 @@ pub sign-bits-across : (r : Record) (l : Law) (st : LineState) (os : List ℕ) (
 unfolding receiveNext listFrom nth
 sign-bits-across r l st os ts = sym (bits-append (st .sign) (listFrom (signAt os) 0 6) ts 5 refl)
 
--- ---- A.1: the sender's count
+-- ---- the line state, and of A.1 the sender's count
+
+-- it is its three parts
+pub same-state : (s t : LineState) → s .history ≡ t .history → s .sign ≡ t .sign → s .doubtful ≡ t .doubtful → s ≡ t
+same-state s t eh es ed =
+    ap₂ (λ (h : ℕ) (g : Bool). record { history = h; sign = g; doubtful = s .doubtful }) eh es
+    ∙ ap (λ (d : ℕ). record { history = t .history; sign = t .sign; doubtful = d }) ed
 
 pub send-doubtful : (st : LineState) (ds : List Bool) → sendNext st ds .doubtful ≡ st .doubtful
 unfolding sendNext
@@ -224,17 +230,13 @@ module _ (r : Record) (l : Law) (holds : Holds r) (s : LineState) (ds : List Boo
 
 -- ---- lengths
 
-length-cond : (b : Bool) (n : ℕ) (x y : List Bool) → length x ≡ n → length y ≡ n → length (cond b x y) ≡ n
-length-cond true n x y p q = p
-length-cond false n x y p q = q
-
 module _ (r : Record) (l : Law) where
   pub length-heardBits : (g : Bool) (os : List ℕ) → length (heardBits r l g os) ≡ D r
   unfolding heardBits
   length-heardBits g os =
       let ts = signBits g (listFrom (signAt os) 0 6) in
       let ns = bitsOf (K r) (receivedNumber r l os) in
-      length-cond (good r l os) (D r) (ts ++ ns) (replicate (D r) false)
+      of-either (λ (xs : List Bool). length xs ≡ D r) (good r l os) {x = ts ++ ns}
       (omega (
         arith,
         length-append ts ns,
@@ -248,7 +250,7 @@ module _ (r : Record) (l : Law) where
   pub length-receiveFrame : (st : LineState) (os : List ℕ) → length (receiveFrame r l st os) ≡ D r
   unfolding receiveFrame
   length-receiveFrame st os =
-      length-cond (good r l os) (D r) (descramble (st .history) (heardBits r l (st .sign) os)) (replicate (D r) false)
+      of-either (λ (xs : List Bool). length xs ≡ D r) (good r l os)
       (length-descramble (st .history) (heardBits r l (st .sign) os) ∙ length-heardBits (st .sign) os) (length-replicate (D r) false)
 
   pub length-sendFrame : (st : LineState) (ds : List Bool) → length (sendFrame r l st ds) ≡ 6

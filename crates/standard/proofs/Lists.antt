@@ -297,6 +297,11 @@ module _ {S F : Type 0} (next : S → F → S) where
   after-keeps P keeps st [] p = p
   after-keeps P keeps st (f ∷ fs) p = after-keeps P keeps (next st f) fs (keeps st f p)
 
+-- what holds of both of two holds of either
+pub of-either : {X : Type 0} (P : X → Type 0) (b : Bool) {x y : X} → P x → P y → P (cond b x y)
+of-either P true p q = p
+of-either P false p q = q
+
 -- from two states in a relation that each step keeps, and in which each gives the same
 module _ {S F : Type 0} (R : S → S → Type 0) (next : S → F → S) (keeps : (s t : S) (f : F) → R s t → R (next s f) (next t f)) where
   pub after-related : (s t : S) (fs : List F) → R s t → R (after next s fs) (after next t fs)

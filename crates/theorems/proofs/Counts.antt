@@ -2,7 +2,7 @@
 use mathlib.Core.Path.{_≡_, refl, sym, ap, _∙_, subst}
 use mathlib.Core.Logic.{_⊎_, inl, inr}
 use Prim.Native.Nat.{ℕ, suc, _+_, _≤_, _<_}
-use mathlib.Core.Bool.{Bool, true, false}
+use mathlib.Core.Bool.{Bool, false}
 use mathlib.Core.List.{List, []}
 use native.Mathlib.Omega.{arith}
 use borrow.Author.Tests.{ne-eqb}
@@ -12,11 +12,11 @@ use Rattle.standard.specs.Lists.{joined, parts, after}
 use Rattle.standard.specs.Bits.{nth}
 use Rattle.standard.specs.Record.{D}
 use Rattle.standard.specs.Frame.{dataBits, sendNext, sendAfter, receiveNext, receiveAfter, mark}
-use Rattle.standard.specs.Calls.{SendCall, sendRefusal, sendBits, sendLeft, ReceiveCall, receiveRefusal, receiveOctets, receiveLeft}
+use Rattle.standard.specs.Calls.{SendCall, sendRefusal, sendLeft, ReceiveCall, receiveRefusal, receiveLeft}
 use Rattle.standard.specs.declared.Law.{Law}
 use Rattle.standard.specs.declared.LineState.{LineState}
 use Rattle.standard.specs.declared.Record.{Record}
-use Rattle.standard.proofs.Lists.{parts-joined, after-keeps}
+use Rattle.standard.proofs.Lists.{parts-joined, after-keeps, of-either}
 use Rattle.standard.proofs.Frame.{send-doubtful, marked-doubtful, doubtful-le}
 use Rattle.standard.proofs.Refusals.{not-eighteen}
 use Rattle.theorems.specs.Runs.{sends, message, sent, receives, octetsRead, handedOver, marksGiven, Damage, Unaltered, Run}
@@ -92,36 +92,28 @@ counts r l s t sending receiving w line m u o b = record { past = past u o b; sh
 
 send-keeps : (n : ℕ) (st : LineState) (c : SendCall) → st .doubtful ≡ n → sendLeft st c .doubtful ≡ n
 unfolding sendLeft sendAfter
-send-keeps n st c e = go (sends st c) refl
-  where
-    go : (b : Bool) → sends st c ≡ b → sendLeft st c .doubtful ≡ n
-    go true q =
-        rw q
-        (after-keeps sendNext (λ z. z .doubtful ≡ n) (λ z f k. send-doubtful z f ∙ k) st (parts (D (c .cp)) (c .frames) (sendBits c)) e)
-    go false q = rw q e
+send-keeps n st c e =
+    of-either (λ (z : LineState). z .doubtful ≡ n) (sends st c)
+    (after-keeps sendNext (λ z. z .doubtful ≡ n) (λ z f k. send-doubtful z f ∙ k) st _ e) e
 
 receive-keeps : (st : LineState) (c : ReceiveCall) → st .doubtful ≤ 24 → receiveLeft st c .doubtful ≤ 24
 unfolding receiveLeft receiveAfter
-receive-keeps st c h = go (receives st c) refl
-  where
-    go : (b : Bool) → receives st c ≡ b → receiveLeft st c .doubtful ≤ 24
-    go true q =
-        rw q
-        (after-keeps (receiveNext (c .cp) (c .law)) (λ z. z .doubtful ≤ 24) (λ z f. doubtful-le (c .cp) (c .law) f z) st
-        (parts 6 (c .frames) (receiveOctets c)) h)
-    go false q = rw q h
+receive-keeps st c h =
+    of-either (λ (z : LineState). z .doubtful ≤ 24) (receives st c)
+    (after-keeps (receiveNext (c .cp) (c .law)) (λ z. z .doubtful ≤ 24) (λ z f. doubtful-le (c .cp) (c .law) f z) st _ h) h
 
 pub counts-kept : CountsKept
 unfolding sendRefusal receiveRefusal
 counts-kept =
     record {
-      carried = λ s cs. sent-count s cs;
-      kept = λ t cs h. after-keeps receiveLeft (λ z. z .doubtful ≤ 24) receive-keeps t cs h;
+      carried = sent-count;
+      kept = received-count;
       sender = λ s cs c h. not-eighteen (c .cp) (after sendLeft s cs) (c .frames) _ _ (rw (sent-count s cs) h);
-      receiver = λ t cs c h.
-          not-eighteen (c .cp) (after receiveLeft t cs) (c .frames) _ _
-          (after-keeps receiveLeft (λ z. z .doubtful ≤ 24) receive-keeps t cs h);
+      receiver = λ t cs c h. not-eighteen (c .cp) (after receiveLeft t cs) (c .frames) _ _ (received-count t cs h);
     }
   where
     sent-count : (s : LineState) (cs : List SendCall) → after sendLeft s cs .doubtful ≡ s .doubtful
     sent-count s cs = after-keeps sendLeft (λ z. z .doubtful ≡ s .doubtful) (send-keeps (s .doubtful)) s cs refl
+
+    received-count : (t : LineState) (cs : List ReceiveCall) → t .doubtful ≤ 24 → after receiveLeft t cs .doubtful ≤ 24
+    received-count = after-keeps receiveLeft (λ z. z .doubtful ≤ 24) receive-keeps

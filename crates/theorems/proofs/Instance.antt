@@ -3,7 +3,7 @@
 use mathlib.Core.Path.{_≡_, refl, sym, ap, _∙_}
 use mathlib.Core.Logic.{_⊎_, inl, inr}
 use Prim.Native.Nat.{ℕ, zero, suc, _+_, _*_, _<_}
-use mathlib.Core.Bool.{true, false}
+use mathlib.Core.Bool.{true, true≢false}
 use mathlib.Core.List.{List, [], _∷_}
 use native.Mathlib.Omega.{arith}
 use lib.Dec.{lit≤}
@@ -11,7 +11,7 @@ use lib.ListN.{getD, take, drop, replicate}
 use lib.Seq.{getD-drop}
 use Rattle.standard.specs.Lists.{listFrom, any, largest, parts, joined, each, after}
 use Rattle.standard.specs.First.{first}
-use Rattle.standard.specs.Bits.{weight, bitAt, bitsIn, field, bytesOf, nth, numberOf, bitsOf}
+use Rattle.standard.specs.Bits.{bitAt, bitsIn, field, bytesOf, nth, numberOf, bitsOf}
 use Rattle.standard.specs.Record.{topIndex, inMask}
 use Rattle.standard.specs.Scrambler.{taps, push, pushAll, scramble, descramble}
 use Rattle.standard.specs.Constellation.{sizeOf, labelOf, pointOf, member, sizes}
@@ -55,9 +55,6 @@ abbrev receiving : List ReceiveCall
 receiving = receive 2 (take 12 delivered) ∷ record { cp = common; law = A; frames = 5; octets = []; bytes = []; marks = [] } ∷ receive 1
     (drop 12 delivered) ∷ []
 
-wrong : false ≡ true → ⊥
-wrong e = let z : _≡_ {A = ℕ} 0 1 = ap weight e in omega arith
-
 -- past the six octets in front
 past : (a b c d e h : ℕ) (xs : List ℕ) (i k : ℕ) → 0 < i → getD (a ∷ b ∷ c ∷ d ∷ e ∷ h ∷ drop 6 xs) (i * 6 + k) 0 ≡ getD xs (i * 6 + k) 0
 past a b c d e h xs zero k l = absurd (omega arith)
@@ -78,8 +75,8 @@ unfolding listFrom any largest parts joined each after first bitAt bitsIn field 
     receiveOctets receiveLeft receiveBytes receiveMarked overCalls AllCalls sent octetsRead marksGiven SendsWith ReceivesWith Carried
 instance = (
   record {
-    sender = (λ e. (refl, refl), (λ e. (refl, refl), (λ e. absurd (wrong e), (λ e. (refl, refl), tt))));
-    receiver = (λ e. (refl, refl), (λ e. absurd (wrong e), (λ e. (refl, refl), tt)));
+    sender = (λ e. (refl, refl), (λ e. (refl, refl), (λ e. absurd (true≢false (sym e)), (λ e. (refl, refl), tt))));
+    receiver = (λ e. (refl, refl), (λ e. absurd (true≢false (sym e)), (λ e. (refl, refl), tt)));
     carried = (refl, λ i o k h. past 0xff 0x12 0x7a 0 3 0xff (sent fresh sending) i k (later i o));
     inside = lit≤ tt;
     reads = refl;

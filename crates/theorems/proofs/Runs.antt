@@ -138,12 +138,11 @@ module _ {r : Record} {l : Law} {s t : LineState} {sending : List SendCall} {rec
   abbrev pub ys : List (List ℕ)
   ys = Q .frames
 
-  carried : (length line ≡ length (joined (sixes r l s fs))) × ((i : ℕ) → Outside w i → Unaltered (joined (sixes r l s fs)) line i)
-  unfolding Carried
-  carried = subst (λ (x : List ℕ). Carried w x line) (S .octets) (u .carried)
-
   line-long : length line ≡ length fs * 6
-  line-long = carried .0 ∙ length-joined 6 (sixes r l s fs) (sized-sixes r l s fs) ∙ ap (λ (x : ℕ). x * 6) (length-sixes r l s fs)
+  unfolding Carried
+  line-long =
+      u .carried .0 ∙ ap length (S .octets) ∙ length-joined 6 (sixes r l s fs) (sized-sixes r l s fs)
+      ∙ ap (λ (x : ℕ). x * 6) (length-sixes r l s fs)
 
   pub many : length ys ≡ m
   many = omega (arith, length-joined 6 ys (Q .sized), ap length (sym (Q .octets) ∙ u .reads), length-take-le (m * 6) line (u .inside))

@@ -1,7 +1,7 @@
 -- Turned twice it is the history. Assumes nothing.
 use borrow.Author.Needs.{needs}
-use mathlib.Core.Path.{ap, _∙_}
-use Prim.Native.Nat.{ℕ}
+use mathlib.Core.Path.{refl, ap, _∙_}
+use Rattle.standard.proofs.Frame.{same-state}
 use Rattle.coding.specs.Past.{turned}
 use Rattle.coding.proofs.Stream.{turned-lt, turned-back}
 use Rattle.frame.proofs.carry.Statement.{statement}
@@ -14,8 +14,7 @@ returns : tie.Need-returns
 returns c =
     let b = c .before in
     let s = b .args .state in (
-      ap (λ (h : ℕ). record { history = h; sign = s .sign; doubtful = s .doubtful })
-          (ap turned (c .turn .ensures) ∙ turned-back (s .history) (b .pre)),
+      same-state _ s (ap turned (c .turn .ensures) ∙ turned-back (s .history) (b .pre)) refl refl,
       rw (c .turn .ensures) (turned-lt (s .history)),
     )
 

@@ -1,7 +1,7 @@
 -- The history of the past. Assumes nothing.
 use borrow.Author.Needs.{needs}
-use mathlib.Core.Path.{ap}
-use Prim.Native.Nat.{ℕ}
+use mathlib.Core.Path.{refl}
+use Rattle.standard.proofs.Frame.{same-state}
 use Rattle.frame.proofs.state_of.Statement.{statement}
 use Rattle.frame.proofs.state_of.Tie as tie
 
@@ -9,9 +9,7 @@ turn-requires : tie.Need-turn-requires
 turn-requires c κs = search needs
 
 returns : tie.Need-returns
-returns c =
-    let x = c .before .args .carried in
-    ap (λ (h : ℕ). record { history = h; sign = x .sign; doubtful = x .doubtful }) (c .turn .ensures)
+returns c = same-state _ _ (c .turn .ensures) refl refl
 
 pub state-of-spec : {M : Type 1} → statement M
 state-of-spec = tie.close (tie.spec turn-requires returns)
