@@ -15,10 +15,10 @@ enum { PLAIN, PROVED, CODECS, WARM_UP = 3, ROUNDS = 41, CP_BYTES = 122, OCTETS =
 enum { PLAN_K = 24, PLAN_SPACING = 600 };
 
 static const struct codec {
-    uint32_t (*send)(const uint8_t *, size_t, bool, size_t, const uint8_t *, size_t,
+    uint32_t (*send)(const uint8_t *, size_t, bool, size_t, bool, uint64_t, const uint8_t *, size_t,
                      uint8_t *, size_t, uint8_t *, size_t);
-    uint32_t (*receive)(const uint8_t *, size_t, bool, size_t, const uint8_t *, size_t,
-                        uint8_t *, size_t, uint8_t *, size_t, uint8_t *, size_t);
+    uint32_t (*receive)(const uint8_t *, size_t, bool, size_t, bool, const uint8_t *, size_t,
+                        uint8_t *, size_t, uint8_t *, size_t, uint8_t *, size_t, uint8_t *, size_t);
     uint32_t (*linear)(bool, const uint8_t *, size_t, int32_t *, size_t);
     uint32_t (*read_cp)(const uint8_t *, size_t, size_t, uint8_t *, size_t);
     uint32_t (*write_cp)(const uint8_t *, size_t, uint8_t *, size_t);
@@ -32,22 +32,23 @@ static const struct codec {
 /* What the calls read, and what each codec writes. */
 static uint8_t record[V91_RECORD_BYTES], bits[OCTETS], line[OCTETS], cp[CP_BYTES];
 static size_t count, bits_len, cp_bits;
+static bool control;
 static struct written {
-    uint8_t octets[OCTETS], heard[OCTETS], marks[V91_FRAMES], state[V91_STATE_BYTES];
+    uint8_t octets[OCTETS], bits[OCTETS], marks[V91_FRAMES], heard[V91_HEARD_BYTES], state[V91_STATE_BYTES];
     uint8_t record[V91_RECORD_BYTES], cp[CP_BYTES], plan[V91_PLAN_BYTES];
     int32_t samples[OCTETS];
 } written[CODECS];
 
 static uint32_t send_call(const struct codec *codec, struct written *to)
 {
-    return codec->send(record, sizeof record, false, count, bits, bits_len,
+    return codec->send(record, sizeof record, false, count, control, V91_RETRAIN, bits, bits_len,
                        to->octets, 6 * count, to->state, sizeof to->state);
 }
 
 static uint32_t receive_call(const struct codec *codec, struct written *to)
 {
-    return codec->receive(record, sizeof record, false, count, line, 6 * count,
-                          to->heard, bits_len, to->marks, count, to->state, sizeof to->state);
+    return codec->receive(record, sizeof record, false, count, control, line, 6 * count, to->bits, bits_len,
+                          to->marks, count, to->heard, sizeof to->heard, to->state, sizeof to->state);
 }
 
 static uint32_t linear_call(const struct codec *codec, struct written *to)
@@ -147,24 +148,42 @@ static void make_masks(unsigned g)
     cp_bits = plain_write_cp(record, sizeof record, cp, sizeof cp);
 }
 
+/* A record at K, and 1,024 frames that the plain codec sends under it. */
+static void make_line(unsigned k)
+{
+    make_record(k);
+    count = V91_FRAMES;
+    bits_len = sizeof bits;
+    memset(written, 0, sizeof written);
+    send_call(&codecs[PLAIN], &written[PLAIN]);
+    memcpy(line, written[PLAIN].octets, sizeof line);
+}
+
 static void frames(const char *entry, uint32_t (*call)(const struct codec *, struct written *))
 {
     static const unsigned ks[] = { 15, 24, 33, 42 };
     static const size_t counts[] = { 1, 32, 1024 };
 
     for (int i = 0; i < 4; i++) {
-        make_record(ks[i]);
-        count = V91_FRAMES;
-        bits_len = sizeof bits;
-        memset(written, 0, sizeof written);
-        send_call(&codecs[PLAIN], &written[PLAIN]);
-        memcpy(line, written[PLAIN].octets, sizeof line);
+        make_line(ks[i]);
         for (int n = 0; n < 3; n++) {
             count = counts[n];
-            bits_len = (count * (ks[i] + 6) + 7) / 8;
+            bits_len = V91_DATA_BYTES(count, ks[i] - 14);
             measure(entry, ks[i], count, call, ((size_t)1 << 16) / (count + 31));
         }
     }
+}
+
+/* The same at one K with the control channel on: a whole sequence in each call. */
+static void frames_on(const char *entry, uint32_t (*call)(const struct codec *, struct written *))
+{
+    enum { K = 24 };
+
+    control = true;
+    make_line(K);
+    bits_len = V91_DATA_BYTES_ON(V91_FRAMES, K - 14, 0);
+    measure(entry, K, V91_FRAMES, call, ((size_t)1 << 16) / (V91_FRAMES + 31));
+    control = false;
 }
 
 int main(void)
@@ -177,6 +196,8 @@ int main(void)
            "   (millions; frames, octets, CPs or plans)\n");
     frames("send", send_call);
     frames("receive", receive_call);
+    frames_on("send, on", send_call);
+    frames_on("recv, on", receive_call);
     for (int n = 0; n < 3; n++) {
         count = counts[n];
         measure("linear", 0, count, linear_call, ((size_t)1 << 19) / (count + 31));

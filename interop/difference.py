@@ -4,10 +4,11 @@
 
 LIBRARY is a shared object with the functions of v91.h under PREFIX, `v91_` or `plain_`. Compared are
 the answer and every byte of every buffer afterwards, with canary bytes before and behind it. In some
-runs of calls the codec's own bytes are held against what the count of doubtful bits promises. The test
-stops at the first difference with a line that shows the call; --show prints every call before it is
-made. The exit status is 0 if all was the same and every refusal, interval, mark and count that a state
-can hand in came up, else 1.
+runs of calls the codec's own bytes are held against what the count of doubtful bits promises, in others
+a sequence of the control channel goes through calls of any lengths. The test stops at the first
+difference with a line that shows the call; --show prints every call before it is made. The exit status
+is 0 if all was the same and every refusal, interval, mark, count and place that a state can hand in,
+and all that can be heard, came up, else 1.
 """
 
 import argparse
@@ -24,6 +25,7 @@ sys.path.insert(0, str(Path(__file__).resolve().parent.parent / "reference"))
 
 import cases_cp
 import cases_frames
+import control
 import cp
 import dil
 import forms
@@ -31,31 +33,35 @@ import frames
 import linear
 import plan
 import record
-from samples import Draw, a_record, a_sparse_record, a_state, faulty_record
+from samples import (Draw, a_number, a_record, a_sequence_place, a_sparse_record, a_state, faulty_record,
+                     with_places)
 
-RECORD_BYTES, STATE_BYTES, PLAN_BYTES = 105, 6, 24
-DOUBTFUL = 5  # the byte of a state that counts doubtful bits
+RECORD_BYTES, STATE_BYTES, HEARD_BYTES, PLAN_BYTES = 105, 21, 8, 24
+DOUBTFUL, FRAME_PLACE, SEQUENCE_PLACE = 5, 6, 7  # bytes of a state
+IN_STATE = {"counts of doubtful bits": DOUBTFUL, "frame places": FRAME_PLACE, "sequence places": SEQUENCE_PLACE}
+TOLD = ("nothing", "a sequence", "a frame lost", "the pattern wrong", "the CRC wrong")
 DIL_OCTETS = dil.length(dil.TABLE_5)
 
 # The parameters of each entry; all but a_law and the numbers are buffers: a pointer and a length.
 ENTRIES = {
     "read_cp": ("cp", "bit_count", "record"),
     "write_cp": ("record", "cp"),
-    "send": ("record", "a_law", "frames", "bits", "octets", "state"),
-    "receive": ("record", "a_law", "frames", "octets", "bits", "marks", "state"),
+    "send": ("record", "a_law", "frames", "control", "sequence", "bits", "octets", "state"),
+    "receive": ("record", "a_law", "frames", "control", "octets", "bits", "marks", "heard", "state"),
     "linear": ("a_law", "octets", "samples"),
     "send_dil": ("a_law", "octets"),
     "plan": ("k", "a_law", "spacing", "ceiling", "plan"),
 }
 KINDS = list(ENTRIES)  # in the order of forms.py, which has no cases of the last two
 NUMBERS = {"a_law": ctypes.c_bool, "frames": ctypes.c_size_t, "bit_count": ctypes.c_size_t,
+           "control": ctypes.c_bool, "sequence": ctypes.c_uint64,
            "k": ctypes.c_uint32, "spacing": ctypes.c_uint32, "ceiling": ctypes.c_uint64}
 
 REFUSALS = {
     "read_cp": {*range(1, 12), 17, 25},
     "write_cp": {4, *range(9, 13), 16, 17, 25},
-    "send": {4, *range(9, 19), 25},
-    "receive": {4, *range(9, 19), 25},
+    "send": {4, *range(9, 20), 25},
+    "receive": {4, *range(9, 20), 25},
     "linear": {17},
     "send_dil": {17},
     "plan": {17, 26, 27, 28},
@@ -75,6 +81,11 @@ FAULTY = {  # how the reference makes a case in which given refusals hold, and w
     "send": (cases_frames.faulty_send, cases_frames.NUMBERS),
     "receive": (cases_frames.faulty_receive, cases_frames.NUMBERS),
 }
+CHANNEL_GROUPS = (
+    cases_frames.every_place, cases_frames.places_alone, cases_frames.place_faults,
+    cases_frames.every_bit_started, cases_frames.each_bit_wrong, cases_frames.reserved_bits,
+    cases_frames.faults_at_the_end, cases_frames.lost_and_found, cases_frames.marked_control_frames,
+    cases_frames.counted_control_frames, cases_frames.exact_buffers, cases_frames.ends_and_starts)
 ENOUGH = 20_000  # from so many calls on, all of these have to come up
 
 
@@ -107,9 +118,8 @@ def record_from(form):
 
 
 def state_from(form):
-    """The line state in a buffer."""
-    state = frames.unpack_state(form[:STATE_BYTES])
-    return state._replace(sign=int(state.sign != 0))
+    """The line state in a buffer; a flag counts as 1 where its byte is not 0."""
+    return frames.unpack_state(form[:STATE_BYTES])
 
 
 def state_left(state, count, form):
@@ -133,23 +143,27 @@ def want_write_cp(form, buffer):
     return answer_to(refusal) or count, {"cp": after}
 
 
-def want_send(form, a_law, count, bits, octets, state):
+def want_send(form, a_law, count, channel, number, bits, octets, state):
     if len(form) < RECORD_BYTES or len(state) < STATE_BYTES:
         return 16, {}
-    refusal, left, after = frames.send(record_from(form), a_law, count, state_from(state), bits, octets)
+    refusal, left, after = frames.send(record_from(form), a_law, count, state_from(state), channel, number,
+                                       bits, octets)
     if refusal:
         return answer_to(refusal), {}
     return 0, {"octets": after, "state": state_left(left, count, state)}
 
 
-def want_receive(form, a_law, count, octets, bits, marks, state):
+def want_receive(form, a_law, count, channel, octets, bits, marks, heard, state):
     if len(form) < RECORD_BYTES or len(state) < STATE_BYTES:
         return 16, {}
-    refusal, left, heard, judged = frames.receive(record_from(form), a_law, count, state_from(state),
-                                                  octets, bits, marks)
+    refusal, left, told, data, judged = frames.receive(record_from(form), a_law, count, state_from(state),
+                                                       channel, octets, bits, marks)
     if refusal:
         return answer_to(refusal), {}
-    return 0, {"bits": heard, "marks": judged, "state": state_left(left, count, state)}
+    if len(heard) < HEARD_BYTES:
+        return 17, {}
+    return 0, {"bits": data, "marks": judged, "heard": control.pack(told) + heard[HEARD_BYTES:],
+               "state": state_left(left, count, state)}
 
 
 def want_linear(a_law, octets, samples):
@@ -243,6 +257,15 @@ def bit_at(octets, n):
     return octets[n // 8] >> n % 8 & 1
 
 
+def widths_of(rec, place, choices):
+    """The data bits of each frame, from a frame place on, by whether the channel is on there."""
+    widths = []
+    for channel in choices:
+        widths.append(rec.drn + (14 if channel and place == 0 else 20))
+        place = (place + 1) % 64 if channel else place
+    return widths
+
+
 def shown(value):
     return value.hex() if isinstance(value, bytes) else str(value)
 
@@ -255,9 +278,9 @@ class Test:
         self.made = 0
         self.counts = {entry: Counter() for entry in ENTRIES}
         self.intervals = {entry: Counter() for entry in FAULTY}
-        self.marks = Counter()
-        self.counted = {"send": set(), "receive": set()}
-        self.promised = Counter()
+        self.marks, self.told, self.short_heard = Counter(), Counter(), 0
+        self.handed_in = {entry: {what: set() for what in IN_STATE} for entry in ("send", "receive")}
+        self.promised, self.sequences = Counter(), Counter()
         self.next_count = 0
         self.held = {entry: set() for entry in ENTRIES}
         self.sets = [(entry, {number}) for entry in FAULTY for number in FAULTY[entry][1]]
@@ -289,8 +312,11 @@ class Test:
             self.intervals[entry][answer >> 24] += 1
         if entry == "receive" and answer == 0:
             self.marks.update(after["marks"][:values[2]])
-        if entry in self.counted:
-            self.counted[entry].update(values[-1][DOUBTFUL:DOUBTFUL + 1])
+            self.told[after["heard"][0]] += 1
+        if entry == "receive" and answer == 17 and len(values[7]) < HEARD_BYTES:
+            self.short_heard += 1
+        for what, at in IN_STATE.items() if entry in self.handed_in else ():
+            self.handed_in[entry][what].update(values[-1][at:at + 1])
         return found, {name: now[Memory.EDGE:-Memory.EDGE] for name, now in there.items()}
 
     def line(self, entry, values, offset, null):
@@ -323,7 +349,8 @@ class Test:
 
     def state(self, state):
         """A state buffer."""
-        return self.cut(frames.pack_state(state._replace(sign=self.flag(state.sign))))
+        flagged = state._replace(sign=self.flag(state.sign), lost=self.flag(state.lost))
+        return self.cut(frames.pack_state(flagged))
 
     def length(self, needed):
         """The length of a buffer: mostly as needed, at times more, rarely less."""
@@ -349,22 +376,28 @@ class Test:
 
     # Calls
 
-    def send(self, rec, law, count, state):
+    def heard(self):
+        """A buffer for what is heard: of any length at times."""
+        return self.some(self.draw.below(20) if self.draw.below(50) == 0 else self.length(HEARD_BYTES))
+
+    def send(self, rec, law, count, state, channel):
         """(Octets sent, state left)."""
         few = min(count, 1025)
-        bits, octets = self.length(frames.data_bytes(rec, few)), self.length(6 * few)
-        answer, after = self.call("send", self.record(rec), law, count, self.some(bits),
-                                  self.some(octets), self.state(state))
+        needed = frames.data_bytes(rec, few, channel, state.frame_place)
+        bits, octets = self.length(needed), self.length(6 * few)
+        answer, after = self.call("send", self.record(rec), law, count, channel, a_number(self.draw),
+                                  self.some(bits), self.some(octets), self.state(state))
         return (b"", state) if answer else (after["octets"][:6 * count], state_from(after["state"]))
 
-    def receive(self, rec, law, count, line, state):
+    def receive(self, rec, law, count, line, state, channel):
         """The state left."""
         few = min(count, 1025)
         spare = self.length(6 * few) - 6 * few
         octets = line + self.draw.octets(spare) if spare >= 0 else line[:spare]
-        bits, marks = self.length(frames.data_bytes(rec, few)), self.length(few)
-        answer, after = self.call("receive", self.record(rec), law, count, octets, self.some(bits),
-                                  self.some(marks), self.state(state))
+        needed = frames.data_bytes(rec, few, channel, state.frame_place)
+        bits, marks = self.length(needed), self.length(few)
+        answer, after = self.call("receive", self.record(rec), law, count, channel, octets, self.some(bits),
+                                  self.some(marks), self.heard(), self.state(state))
         return state if answer else state_from(after["state"])
 
     def case(self, case):
@@ -377,27 +410,35 @@ class Test:
             self.call(entry, self.record(given[0]), given[1])
         elif entry == "linear":
             self.call(entry, given[0], given[1], self.some(4 * len(given[2])))
+        elif entry == "send":
+            rec, law, count, state, channel, number, data, octets = given
+            self.call(entry, self.record(rec), law, count, channel, number, data, self.some(len(octets)),
+                      self.state(state))
         else:
-            rec, law, count, state, read, *written = given
+            rec, law, count, state, channel, octets, *written = given
             written = [self.some(len(each)) for each in written]
-            self.call(entry, self.record(rec), law, count, read, *written, self.state(state))
+            self.call(entry, self.record(rec), law, count, channel, octets, *written, self.heard(),
+                      self.state(state))
 
     # Scenes
 
     def a_run(self):
-        """Sent in some calls, carried with or without damage, received in others; CP there and back."""
+        """Sent in some calls, carried with or without damage, received in others; CP there and back.
+
+        Each call has the channel off or on.
+        """
         draw, rec, law = self.draw, self.any_record(), self.draw.below(2)
         start = draw.pick((frames.FRESH, a_state(draw)))
         state, line = start, b""
         for _ in range(draw.between(1, 3)):
-            octets, state = self.send(rec, law, self.count(), state)
+            octets, state = self.send(rec, law, self.count(), state, draw.below(2))
             line += octets
         for _ in range(draw.below(4) if line else 0):
             line = cases_frames.damaged(draw, rec, law, line)
         state = draw.pick((start, a_state(draw)))
         while line:
             count = min(self.count(), len(line) // 6 + (draw.below(20) == 0))
-            state = self.receive(rec, law, count, line[:6 * count], state)
+            state = self.receive(rec, law, count, line[:6 * count], state, draw.below(2))
             line = line[6 * count:]
         if draw.below(2):
             needed = cases_cp.byte_count(cases_cp.length_of(rec))
@@ -407,33 +448,37 @@ class Test:
             self.call("read_cp", sequence, cases_cp.length_of(rec), self.cut(self.some(RECORD_BYTES)))
 
     def each_count(self):
-        """The next of all counts that a byte can hold, for both entries, with other refusals at times."""
+        """The next of all counts and places that a byte can hold, with other refusals at times."""
         draw = self.draw
         for _ in range(8):
             self.next_count = (self.next_count + 1) % 256
-            rec, law, frame_count = self.any_record(), draw.below(2), draw.below(4)
-            if draw.below(4) == 0:
-                rec, frame_count = faulty_record(draw, {draw.pick((4, 9, 10, 25, 11, 12, 13))}), 1
-            state = a_state(draw)._replace(doubtful=self.next_count)
-            if draw.below(8) == 0:
-                state = state._replace(history=cases_frames.a_history_too_large(draw))
-            self.send(rec, law, frame_count, state)
-            self.receive(rec, law, frame_count, draw.octets(6 * frame_count), state)
+            for field in ("doubtful", "frame_place", "sequence_place"):
+                rec, law, frame_count = self.any_record(), draw.below(2), draw.below(4)
+                if draw.below(4) == 0:
+                    rec, frame_count = faulty_record(draw, {draw.pick((4, 9, 10, 25, 11, 12, 13))}), 1
+                state = a_state(draw)._replace(**{field: self.next_count})
+                if draw.below(8) == 0:
+                    state = state._replace(history=cases_frames.a_history_too_large(draw))
+                if field != "doubtful" and draw.below(8) == 0:
+                    state = state._replace(doubtful=cases_frames.a_doubt_too_large(draw))
+                self.send(rec, law, frame_count, state, draw.below(2))
+                self.receive(rec, law, frame_count, draw.octets(6 * frame_count), state, draw.below(2))
 
     def expect(self, holds, what):
         """Stop unless what is promised holds."""
         if not holds:
             raise Difference(f"call {self.made}: not as promised: {what}")
 
-    def sent_in_calls(self, rec, law, state):
+    def sent_in_calls(self, rec, law, state, choices):
         """(Data bits, octets) of some calls of the sender, which leaves the count as it is."""
         draw, message, line, form = self.draw, [], b"", frames.pack_state(state)
-        for _ in range(draw.between(1, 3)):
-            count = draw.between(1, 6)
-            data = draw.octets(frames.data_bytes(rec, count))
-            answer, left = self.call("send", record.pack(rec), law, count, data, self.some(6 * count), form)
+        for channel, count in cases_frames.cut_by_choice(draw, choices):
+            widths = widths_of(rec, form[FRAME_PLACE], [channel] * count)
+            data = draw.octets((sum(widths) + 7) // 8)
+            answer, left = self.call("send", record.pack(rec), law, count, channel, a_number(draw), data,
+                                     self.some(6 * count), form)
             self.expect(answer == 0 and left["state"][DOUBTFUL] == state.doubtful, "the sender's count")
-            message += [bit_at(data, n) for n in range(count * frames.frame_bits(rec))]
+            message += [bit_at(data, n) for n in range(sum(widths))]
             line, form = line + left["octets"], left["state"]
         return message, line
 
@@ -444,20 +489,22 @@ class Test:
             octets = bytearray(draw.pick((frame, draw.octets(6))))
             octets[draw.below(6)] = draw.bits(8)
             bits = self.some(frames.data_bytes(rec, 1))
-            left = self.call("receive", record.pack(rec), law, 1, bytes(octets), bits, b"\0", form)[1]
+            left = self.call("receive", record.pack(rec), law, 1, draw.below(2), bytes(octets), bits, b"\0",
+                             self.some(HEARD_BYTES), form)[1]
             if left["marks"] != b"\0":
                 return bytes(octets)
 
-    def check_frames(self, width, left, message, altered, count):
+    def check_frames(self, widths, left, message, altered, count):
         """Hold what a call of the receiver left against what was sent; the count after its frames."""
-        for n, mark in enumerate(left["marks"]):
-            self.expect((mark > 0) == altered[n], "a frame is marked that is not altered, or the reverse")
+        first = 0
+        for width, mark, is_altered in zip(widths, left["marks"], altered):
+            self.expect((mark > 0) == is_altered, "a frame is marked that is not altered, or the reverse")
             places = range(0 if mark else width)
-            wrong = [p for p in places if bit_at(left["bits"], n * width + p) != message[n * width + p]]
+            wrong = [p for p in places if bit_at(left["bits"], first + p) != message[first + p]]
             self.expect(not wrong or wrong[-1] < count, f"bits {wrong} are wrong after the count {count}")
             self.promised["bits wrong"] += len(wrong)
             self.promised["the last doubtful one wrong"] += count - 1 in wrong
-            count = 24 if mark else max(count - width, 0)
+            count, first = 24 if mark else max(count - width, 0), first + width
         self.expect(left["state"][DOUBTFUL] == count, f"the receiver's count is not {count}")
         return count
 
@@ -466,33 +513,98 @@ class Test:
 
         Each frame that is altered is marked. The receiver begins cold, in any history and sign, or in the
         sender's with any count up to 24. A good frame's bits past as many as the count before it are as sent.
+        The channel is off, or on and off by a choice at each frame.
         """
         draw, law, drn = self.draw, self.draw.below(2), self.draw.between(1, 28)
         rec, start, cold = a_record(draw, drn), a_state(draw), draw.below(2)
-        message, sent = self.sent_in_calls(rec, law, start)
+        choices = [0] * draw.between(1, 12)
+        if draw.below(2):
+            start = cases_frames.at_places(draw, draw.between(54, 64) % 64, a_sequence_place(draw))
+            choices = cases_frames.some_choices(draw, draw.between(1, 16))
+        message, sent = self.sent_in_calls(rec, law, start, choices)
         line = [sent[n:n + 6] for n in range(0, len(sent), 6)]
         altered = [drn < 28 and draw.below(3) == 0 for _ in line]  # at drn 28 every frame is good
         line = [self.marked_instead(rec, law, frame) if hurt else frame for frame, hurt in zip(line, altered)]
-        width, count = frames.frame_bits(rec), 24 if cold else draw.between(0, 24)
-        form, first = frames.pack_state((a_state(draw) if cold else start)._replace(doubtful=count)), 0
-        while first < len(line):
-            part = line[first:first + draw.pick((0, 1, 1, 2, 3, 7))]
-            bits, marks = self.some(frames.data_bytes(rec, len(part))), self.some(len(part))
-            answer, left = self.call("receive", record.pack(rec), law, len(part), b"".join(part), bits, marks, form)
+        count = 24 if cold else draw.between(0, 24)
+        other = with_places(draw, a_state(draw))._replace(frame_place=start.frame_place)
+        form, first, at = frames.pack_state((other if cold else start)._replace(doubtful=count)), 0, 0
+        for channel, frame_count in cases_frames.cut_by_choice(draw, choices):
+            part = line[first:first + frame_count]
+            widths = widths_of(rec, form[FRAME_PLACE], [channel] * frame_count)
+            bits, marks = self.some((sum(widths) + 7) // 8), self.some(frame_count)
+            answer, left = self.call("receive", record.pack(rec), law, frame_count, channel, b"".join(part), bits,
+                                     marks, self.some(HEARD_BYTES), form)
             self.expect(answer == 0, "the receiver declines")
-            count = self.check_frames(width, left, message[first * width:], altered[first:], count)
-            first, form = first + len(part), left["state"]
+            count = self.check_frames(widths, left, message[at:], altered[first:], count)
+            first, at, form = first + frame_count, at + sum(widths), left["state"]
         self.promised["runs"] += 1
+
+    def a_length(self, left):
+        """The frames of a call of a long run."""
+        return min(left, self.draw.pick((0, 1, 2, 63, 64, 65, self.draw.below(300), self.draw.below(1025))))
+
+    def a_sequence(self):
+        """A sequence crosses calls: by the codec's own bytes it is heard, or told to be lost or wrong.
+
+        Both ends begin at frame place 0 and sequence place 0 and have 961 frames or more with the channel on.
+        """
+        draw, law = self.draw, self.draw.below(2)
+        rec, number, total = a_record(draw, draw.between(1, 27)), a_number(draw), draw.between(961, 1024)
+        start = cases_frames.at_places(draw, 0, 0)
+        line, form = b"", frames.pack_state(start)
+        while len(line) < 6 * total:
+            count = self.a_length(total - len(line) // 6)
+            given = number if form[FRAME_PLACE] == form[SEQUENCE_PLACE] == 0 else a_number(draw)
+            data = self.some(frames.data_bytes(rec, count, 1, form[FRAME_PLACE]))
+            answer, left = self.call("send", record.pack(rec), law, count, 1, given, data, self.some(6 * count),
+                                     form)
+            self.expect(answer == 0, "the sender declines")
+            line, form = line + left["octets"], left["state"]
+        line, wanted = self.line_of_sequence(rec, law, line)
+        said, first = [], 0
+        form = frames.pack_state(cases_frames.at_places(draw, 0, 0)._replace(sign=start.sign))
+        while first < total:
+            count = self.a_length(total - first)
+            octets, bits = line[6 * first:6 * (first + count)], self.some(frames.data_bytes(
+                rec, count, 1, form[FRAME_PLACE]))
+            answer, left = self.call("receive", record.pack(rec), law, count, 1, octets, bits, self.some(count),
+                                     self.some(HEARD_BYTES), form)
+            self.expect(answer == 0, "the receiver declines")
+            self.expect((left["heard"][0] > 0) == (first <= 960 < first + count), "heard in another call")
+            said += [left["heard"]] if left["heard"][0] else []
+            first, form = first + count, left["state"]
+        self.expect(said[0][0] in wanted, f"{said[0][0]} is heard and not one of {wanted}")
+        heard = (number % 2**56).to_bytes(7, "little") if said[0][0] == 1 else bytes(7)
+        self.expect(said[0][1:] == heard, "other bits are heard than were sent")
+        self.sequences[TOLD[said[0][0]]] += 1
+
+    def line_of_sequence(self, rec, law, line):
+        """(The line, perhaps with damage, what may be heard then) of a sequence that starts in frame 0."""
+        draw, how = self.draw, self.draw.below(4)
+        frame, line = 64 * draw.pick((1, 2, draw.below(16))), bytearray(line)
+        if how == 1:
+            mark = draw.pick(cases_frames.possible_marks(rec))
+            line[6 * frame:6 * frame + 6] = cases_frames.a_frame(draw, rec, law, mark)
+            return bytes(line), (2,)
+        if how == 2 and frame:
+            line[6 * frame - 1] ^= 0x80  # the first control bit of the frame is wrong, and no other
+            return bytes(line), (3, 4)
+        if how == 3:
+            place = draw.pick([n for n in range(len(line) // 6) if n % 64 not in (0, 63)])
+            line[6 * place:6 * place + 6] = draw.octets(6)
+        return bytes(line), (1,)
 
     def longest(self):
         """The most frames that a call can have, and one more, in buffers of the exact lengths."""
-        draw, law = self.draw, self.draw.below(2)
-        rec = a_record(draw, draw.between(1, 28))
-        form, state = record.pack(rec), frames.pack_state(a_state(draw))
+        draw, law, channel = self.draw, self.draw.below(2), self.draw.below(2)
+        rec, begin = a_record(draw, draw.between(1, 28)), a_state(draw)
+        form, state = record.pack(rec), frames.pack_state(begin)
         for count in (frames.MOST_FRAMES, frames.MOST_FRAMES + 1):
-            data = draw.octets(frames.data_bytes(rec, count))
-            _, after = self.call("send", form, law, count, data, draw.octets(6 * count), state)
-            self.call("receive", form, law, count, after["octets"], data, draw.octets(count), state)
+            data = draw.octets(frames.data_bytes(rec, count, channel, begin.frame_place))
+            _, after = self.call("send", form, law, count, channel, a_number(draw), data,
+                                 draw.octets(6 * count), state)
+            self.call("receive", form, law, count, channel, after["octets"], data, draw.octets(count),
+                      draw.octets(HEARD_BYTES), state)
 
     def marked(self):
         """Frames of every mark, and octets at random."""
@@ -504,7 +616,7 @@ class Test:
             line = b"".join(cases_frames.a_frame(draw, rec, law, mark) for mark in kinds)
             if draw.below(8) == 0:
                 line = draw.octets(len(line))
-            state = self.receive(rec, law, len(kinds), line, state)
+            state = self.receive(rec, law, len(kinds), line, state, draw.below(2))
 
     def refused(self):
         """The next single refusals and pairs of them, and greater sets for sender and receiver."""
@@ -528,13 +640,18 @@ class Test:
         draw = self.draw
         numbers = {draw.pick((4, 9, 10, 25, 11, 12, 13))}
         rec = faulty_record(draw, numbers) if draw.below(2) else self.any_record()
-        short = [record.pack(rec)[:draw.pick((0, 1, 50, 104))], bytes(draw.pick((0, 1, 4, 5)))]
+        short = [record.pack(rec)[:draw.pick((0, 1, 50, 104))], bytes(draw.pick((0, 1, 5, 6, 20)))]
         whole = [record.pack(rec), frames.pack_state(a_state(draw))]
         for forms_lent in ((short[0], whole[1]), (whole[0], short[1]), short):
-            few = [self.some(draw.below(9)) for _ in range(3)]
+            few = [self.some(draw.below(9)) for _ in range(4)]
             head, state = (forms_lent[0], draw.below(2), draw.pick((0, 1, 2**64 - 1))), forms_lent[1]
-            self.call("send", *head, *few[:2], state)
-            self.call("receive", *head, *few, state)
+            self.call("send", *head, draw.below(2), a_number(draw), *few[:2], state)
+            self.call("receive", *head, draw.below(2), *few, state)
+        for count in range(3):
+            channel, state, room = draw.below(2), a_state(draw), draw.below(HEARD_BYTES)
+            needed = frames.data_bytes(rec, count, channel, state.frame_place)
+            self.call("receive", self.record(rec), draw.below(2), count, channel, draw.octets(6 * count),
+                      self.some(needed), self.some(count), self.some(room), self.state(state))
         self.call("write_cp", short[0], self.some(draw.pick((0, 36, 122))))
         self.call("read_cp", draw.octets(draw.pick((0, 37))), draw.pick((0, 294, 2**64 - 1)), short[0])
 
@@ -561,7 +678,7 @@ class Test:
                   cases_cp.sparse_readings, cases_cp.sparse_writings,
                   cases_frames.sparse_calls, cases_frames.sparse_faults,
                   cases_frames.counted_frames, cases_frames.each_mark_counted,
-                  cases_frames.counts_alone, cases_frames.count_faults)
+                  cases_frames.counts_alone, cases_frames.count_faults, *CHANNEL_GROUPS)
         for case in self.draw.pick(groups)(self.draw):
             if self.draw.below(4) == 0:
                 self.case(case)
@@ -581,8 +698,8 @@ class Test:
             state, form = a_state(self.draw), self.cut(self.some(RECORD_BYTES))
             self.call("write_cp", self.record(rec), self.some(self.length(122)))
             self.call("read_cp", cases_cp.plain(rec), cases_cp.length_of(rec), form)
-            self.send(rec, law, count, state)
-            self.receive(rec, law, count, self.some(6 * min(count, 1025)), state)
+            self.send(rec, law, count, state, self.draw.below(2))
+            self.receive(rec, law, count, self.some(6 * min(count, 1025)), state, self.draw.below(2))
 
     def samples(self):
         """Linear samples."""
@@ -636,7 +753,7 @@ class Test:
         """All calls."""
         often = [self.a_run] * 40 + [self.marked] * 6 + [self.refused] * 6 + [self.flipped] * 6
         often += [self.each_count] * 4 + [self.distrusted] * 4
-        rarely = [self.bad_buffers, self.edges, self.sparse] * 2 + [self.listed]
+        rarely = [self.bad_buffers, self.edges, self.sparse, self.listed] * 2 + [self.a_sequence]
         rarely += [self.samples] * 6 + [self.learning] + [self.planning] * 3
         try:
             self.longest()
@@ -662,9 +779,16 @@ class Test:
             lacking += [f"{entry} 25 with {i}" for i in range(6) if not counts[i]]
         print("marks:", ", ".join(f"{mark}: {self.marks[mark]}" for mark in range(8)))
         lacking += [f"mark {mark}" for mark in range(8) if not self.marks[mark]]
-        for entry, counts in self.counted.items():
-            print(f"{entry}, counts of doubtful bits handed in: {len(counts)} of 256")
-            lacking += [f"{entry} with the count {count}" for count in sorted({*range(256)} - counts)]
+        for entry, kinds in self.handed_in.items():
+            for what, values in kinds.items():
+                print(f"{entry}, {what} handed in: {len(values)} of 256")
+                lacking += [f"{entry}, {what}: {value}" for value in sorted({*range(256)} - values)]
+        print("heard:", ", ".join(f"{what}: {self.told[n]}" for n, what in enumerate(TOLD)),
+              f"(in no buffer or a short one: {self.short_heard})")
+        lacking += [f"heard {what}" for n, what in enumerate(TOLD) if not self.told[n]]
+        lacking += [] if self.short_heard else ["a short buffer for what is heard"]
+        print("sequences across calls:", ", ".join(f"{what}: {self.sequences[what]}" for what in TOLD[1:]))
+        lacking += [f"sequences across calls, {what}" for what in TOLD[1:] if not self.sequences[what]]
         met = ("runs", "bits wrong", "the last doubtful one wrong")
         print("doubtful bits as promised:", ", ".join(f"{what}: {self.promised[what]}" for what in met))
         lacking += [f"doubtful bits, {what}" for what in met if not self.promised[what]]

@@ -1,5 +1,5 @@
 /* Reads a CP, sends 63 one bits in three frames, receives them, and prints what came of it; another receiver begins cold.
-   Exits with 1 if anything is not as expected. */
+   Then a request to retrain goes through the control channel. Exits with 1 if anything is not as expected. */
 #include "v91.h"
 
 #include <stdio.h>
@@ -35,10 +35,35 @@ static void print_hex(const char *name, const uint8_t *bytes, size_t count)
     printf("\n");
 }
 
+/* A call with the control channel on from a fresh state of both ends: its 1,024 frames have a whole sequence. */
+static void control_channel(const uint8_t *record)
+{
+    static uint8_t bits[V91_DATA_BYTES_ON(V91_FRAMES, 1, 0)], octets[V91_FRAMES_OCTETS], received[sizeof bits], marks[V91_FRAMES];
+    uint8_t sender[V91_STATE_BYTES] = { 0 }, receiver[V91_STATE_BYTES] = { 0 }, heard[V91_HEARD_BYTES];
+    uint64_t wanted = V91_RETRAIN | V91_SECONDARY(5), said = 0;
+
+    for (size_t i = 0; i < sizeof bits; i++)
+        bits[i] = (uint8_t)(i * 7);
+    expect(v91_send(record, V91_RECORD_BYTES, false, V91_FRAMES, true, wanted, bits, sizeof bits,
+                    octets, sizeof octets, sender, sizeof sender) == 0, "the sender refuses with the channel on");
+    expect(v91_receive(record, V91_RECORD_BYTES, false, V91_FRAMES, true, octets, sizeof octets, received, sizeof received,
+                       marks, sizeof marks, heard, sizeof heard, receiver, sizeof receiver) == 0, "the receiver refuses with the channel on");
+    for (int i = 7; i > 0; i--)
+        said = said << 8 | heard[i];
+    printf("heard  %d, cleardown %d, retrain %d, data %llu\n", heard[0], (said & V91_CLEARDOWN) != 0, (said & V91_RETRAIN) != 0,
+           (unsigned long long)(said >> 2));
+    expect(heard[0] == V91_HEARD_SEQUENCE && said == wanted, "another sequence than the one sent");
+    expect(memcmp(received, bits, sizeof bits) == 0, "other bits than those sent with the channel on");
+    expect(memcmp(sender, receiver, sizeof sender) == 0, "the two ends are in different states with the channel on");
+    receiver[V91_STATE_FRAME_PLACE] = 64;
+    expect(v91_receive(record, V91_RECORD_BYTES, false, 0, false, NULL, 0, NULL, 0, NULL, 0, heard, sizeof heard,
+                       receiver, sizeof receiver) == V91_PLACE_TOO_LARGE, "a frame place above 63 is taken");
+}
+
 int main(void)
 {
     uint8_t record[V91_RECORD_BYTES], again[V91_CP_BYTES];
-    uint8_t bits[8], octets[6 * FRAMES], heard[8], marks[FRAMES];
+    uint8_t bits[8], octets[6 * FRAMES], received[8], marks[FRAMES], heard[V91_HEARD_BYTES];
     uint8_t sender[V91_STATE_BYTES] = { 0 }, receiver[V91_STATE_BYTES] = { 0 };
     uint8_t cold[V91_STATE_BYTES] = { [V91_STATE_DOUBTFUL] = V91_COLD };
     int32_t samples[6 * FRAMES];
@@ -60,34 +85,36 @@ int main(void)
 
     memset(bits, 0xff, sizeof bits);
     expect(sizeof bits == V91_DATA_BYTES(FRAMES, 1) && sizeof octets == V91_OCTETS(FRAMES), "other lengths than the header says");
-    expect(v91_send(record, sizeof record, false, FRAMES, bits, sizeof bits,
+    expect(v91_send(record, sizeof record, false, FRAMES, false, 0, bits, sizeof bits,
                     octets, sizeof octets, sender, sizeof sender) == 0, "the sender refuses");
-    expect(v91_receive(record, sizeof record, false, FRAMES, octets, sizeof octets, heard, sizeof heard,
-                       marks, sizeof marks, receiver, sizeof receiver) == 0, "the receiver refuses");
+    expect(v91_receive(record, sizeof record, false, FRAMES, false, octets, sizeof octets, received, sizeof received,
+                       marks, sizeof marks, heard, sizeof heard, receiver, sizeof receiver) == 0, "the receiver refuses");
     expect(v91_linear(false, octets, sizeof octets, samples, 6 * FRAMES) == 0, "no samples");
 
     print_hex("octets", octets, sizeof octets);
     printf("bits  ");
     for (int n = 0; n < 21 * FRAMES; n++)
-        printf("%s%d", n % 21 ? "" : " ", heard[n / 8] >> n % 8 & 1);
+        printf("%s%d", n % 21 ? "" : " ", received[n / 8] >> n % 8 & 1);
     printf("\n");
     print_hex("marks ", marks, sizeof marks);
     print_hex("state ", sender, sizeof sender);
 
     bits[7] = 0x7f; /* the 64th bit was not sent */
     expect(memcmp(octets, expected_octets, sizeof octets) == 0, "other octets than expected");
-    expect(memcmp(heard, bits, sizeof bits) == 0, "other bits than those sent");
+    expect(memcmp(received, bits, sizeof bits) == 0, "other bits than those sent");
+    expect(heard[0] == V91_HEARD_NONE, "a sequence is heard where the channel is off");
     expect(marks[0] == 0 && marks[1] == 0 && marks[2] == 0, "a frame is marked");
     expect(memcmp(sender, receiver, sizeof sender) == 0, "the two ends are in different states");
     expect(samples[0] == 16 && samples[1] == -8, "other samples than expected");
 
     /* From the second frame on: 21 of the 24 doubtful bits are in it, 3 are to come. */
-    expect(v91_receive(record, sizeof record, false, 1, octets + 6, 6, heard, sizeof heard,
-                       marks, sizeof marks, cold, sizeof cold) == 0, "the cold receiver refuses");
+    expect(v91_receive(record, sizeof record, false, 1, false, octets + 6, 6, received, sizeof received,
+                       marks, sizeof marks, heard, sizeof heard, cold, sizeof cold) == 0, "the cold receiver refuses");
     printf("cold   %d coming bits to distrust\n", cold[V91_STATE_DOUBTFUL]);
     expect(cold[V91_STATE_DOUBTFUL] == 3, "another count of doubtful bits than expected");
     cold[V91_STATE_DOUBTFUL] = V91_COLD + 1;
-    expect(v91_receive(record, sizeof record, false, 0, NULL, 0, NULL, 0, NULL, 0, cold, sizeof cold) == V91_DOUBTFUL_TOO_LARGE,
-           "a count above 24 is taken");
+    expect(v91_receive(record, sizeof record, false, 0, false, NULL, 0, NULL, 0, NULL, 0, heard, sizeof heard,
+                       cold, sizeof cold) == V91_DOUBTFUL_TOO_LARGE, "a count above 24 is taken");
+    control_channel(record);
     return 0;
 }

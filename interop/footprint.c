@@ -9,7 +9,7 @@
 
 enum { STACK = 1 << 16, PAINT = 0xa5 };
 
-static uint8_t record[V91_RECORD_BYTES], cp[V91_CP_BYTES], state[V91_STATE_BYTES], marks[V91_FRAMES];
+static uint8_t record[V91_RECORD_BYTES], cp[V91_CP_BYTES], state[V91_STATE_BYTES], marks[V91_FRAMES], heard[V91_HEARD_BYTES];
 static uint8_t bits[V91_FRAMES_DATA_BYTES], octets[V91_FRAMES_OCTETS], mask_and_sum[V91_PLAN_BYTES];
 static int32_t samples[V91_FRAMES_OCTETS];
 static uint32_t answer;
@@ -19,12 +19,13 @@ static void write_cp(void) { answer = v91_write_cp(record, sizeof record, cp, si
 static void read_cp(void) { answer = v91_read_cp(cp, sizeof cp, V91_CP_BITS, record, sizeof record); }
 static void send(void)
 {
-    answer = v91_send(record, sizeof record, false, V91_FRAMES, bits, sizeof bits, octets, sizeof octets, state, sizeof state);
+    answer = v91_send(record, sizeof record, false, V91_FRAMES, true, V91_RETRAIN, bits, sizeof bits, octets, sizeof octets,
+                      state, sizeof state);
 }
 static void receive(void)
 {
-    answer = v91_receive(record, sizeof record, false, V91_FRAMES, octets, sizeof octets, bits, sizeof bits, marks, sizeof marks,
-                         state, sizeof state);
+    answer = v91_receive(record, sizeof record, false, V91_FRAMES, true, octets, sizeof octets, bits, sizeof bits,
+                         marks, sizeof marks, heard, sizeof heard, state, sizeof state);
 }
 static void linear(void) { answer = v91_linear(true, octets, sizeof octets, samples, V91_FRAMES_OCTETS); }
 static void send_dil(void) { answer = v91_send_dil(true, octets, sizeof octets); }

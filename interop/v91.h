@@ -6,13 +6,22 @@
  * Record, 105 bytes: granted (flag), drn, acknowledge (flag), six interval indices, then twelve mask
  * halves of 8 bytes, low byte first. Half 2 m has Ucodes 0 to 63 of mask m, half 2 m + 1 has 64 to 127.
  *
- * Line state, 6 bytes: the history in 4 bytes, low byte first, the last sign (flag), and a count of doubtful
- * bits, 0 to 24. A fresh state is six zeros; a receiver told that it begins cold has V91_COLD, 24, in byte 5.
- * Each call of an end takes the state that the call before it left. The count is how many of the bits to come
- * are to be distrusted: a marked frame sets it to 24, a good frame lowers it by its drn + 20 bits, not below 0,
- * and the sender leaves it as it is. If every frame that the line alters is marked, and the receiver begins cold
- * or in the sender's state (history and last sign), then the bits of a good frame past as many as the count
- * before it are the bits sent. The count changes no octet, bit or mark.
+ * Line state, 21 bytes: the history in 4 bytes, low byte first, the last sign (flag), a count of doubtful
+ * bits, 0 to 24, then of the control channel the frame place, 0 to 63, the sequence place, 0 to 15, the 96 bits of a
+ * sequence in 12 bytes, and whether a frame of it was lost (flag). A fresh state is 21 zeros; a receiver told that it
+ * begins cold has V91_COLD, 24, in byte 5. Each call of an end takes the state that the call before it left.
+ *
+ * The count is how many of the bits to come are to be distrusted: a marked frame sets it to 24, a good frame lowers
+ * it by its data bits, not below 0, and the sender leaves it as it is. If every frame that the line alters is marked,
+ * and the receiver begins cold or in the sender's state (history and last sign), then the bits of a good frame past as
+ * many as the count before it are the bits sent. The count changes no octet, bit or mark.
+ *
+ * The control channel is on in a call where `control` is true. Then a frame at frame place 0 is a control frame: its
+ * six signs carry six bits of the channel, so that it has drn + 14 data bits in place of drn + 20, and after each frame
+ * the frame place goes up by one, modulo 64. Sixteen control frames make a sequence of 96 bits; the sequence place is
+ * how many of them are done. Where the channel is off, all fields of it stay as they are. Both ends have to make the
+ * same choice at each frame and to begin at the same places. A call has 1,024 frames at most, so that at most one
+ * sequence starts in it and at most one ends.
  *
  * A flag counts as 1 where its byte is not 0, and is written as 0 or 1.
  *
@@ -29,8 +38,8 @@
  * its own. They allocate nothing, call no function but memset, and return. The stack is to be aligned to 16
  * bytes at the call, as the convention says. SSE registers are used (xmm0 to xmm15), so an interrupt that
  * calls a function has to save them; so is the red zone, 128 bytes below the stack pointer. Measured by
- * interop/footprint in calls of 1,024 frames with six full masks, the red zone included: 20,888 bytes of
- * code and 752 of constants; of stack 576 bytes (v91_write_cp), 688 (v91_read_cp), 2,640 (v91_send), 2,592
+ * interop/footprint in calls of 1,024 frames with six full masks, the red zone included: 26,081 bytes of
+ * code and 860 of constants; of stack 592 bytes (v91_write_cp), 688 (v91_read_cp), 2,752 (v91_send), 2,704
  * (v91_receive), 8 (v91_linear), 144 (v91_send_dil) and 56 (v91_plan).
  */
 #ifndef V91_H
@@ -45,7 +54,7 @@ extern "C" {
 #endif
 
 /* Raised where a function is added, or a function, a layout or an answer changes. */
-#define V91_VERSION 4
+#define V91_VERSION 5
 
 /* ---- refusals */
 
@@ -66,6 +75,7 @@ enum v91_refusal {
     V91_FRAMES_AT_CLEARDOWN = 13,    /* there are frames and drn is 0 */
     V91_HISTORY_TOO_LARGE = 14,      /* the history is 2^23 or more */
     V91_DOUBTFUL_TOO_LARGE = 18,     /* the count of doubtful bits exceeds 24 */
+    V91_PLACE_TOO_LARGE = 19,        /* the frame place exceeds 63 or the sequence place 15 */
     V91_TOO_MANY_FRAMES = 15,        /* there are more than 1,024 frames */
     V91_INPUT_TOO_SHORT = 16,        /* a buffer to be read is shorter than needed */
     V91_RATE_OR_SPACING_OUTSIDE = 26,/* K is outside 15 to 42, or the spacing outside 1 to 65,535 */
@@ -74,7 +84,7 @@ enum v91_refusal {
     V91_OUTPUT_TOO_SHORT = 17        /* a buffer to be written is shorter than needed */
 };
 
-/* Whether an answer is a refusal: it is 1 to 18, 26 to 28, or 25 + (interval << 24). Else it is 0, the bit count
+/* Whether an answer is a refusal: it is 1 to 19, 26 to 28, or 25 + (interval << 24). Else it is 0, the bit count
    of v91_write_cp, which is 294 to 972, or the 1,500 octets of v91_send_dil. */
 #define V91_REFUSED(answer) ((answer) != 0 && ((answer) < 294 || (answer) >= 1u << 24))
 
@@ -93,11 +103,30 @@ enum v91_refusal {
 
 /* ---- the line state */
 
-#define V91_STATE_BYTES 6
+#define V91_STATE_BYTES 21
 #define V91_STATE_HISTORY 0                                  /* 4 bytes */
 #define V91_STATE_SIGN 4
 #define V91_STATE_DOUBTFUL 5                                 /* 0 to 24 */
 #define V91_COLD 24                                          /* its value where a receiver begins cold */
+#define V91_STATE_FRAME_PLACE 6                              /* 0 to 63; 0 for a control frame */
+#define V91_STATE_SEQUENCE_PLACE 7                           /* 0 to 15 control frames done */
+#define V91_STATE_SEQUENCE 8                                 /* 12 bytes: a sender's sequence, a receiver's bits so far */
+#define V91_STATE_LOST 20
+
+/* ---- the control channel: the 56 bits that v91_send is handed, and what v91_receive writes into `heard` */
+
+#define V91_CLEARDOWN 1u                                     /* bit 0: bit 16 of the sequence */
+#define V91_RETRAIN 2u                                       /* bit 1: bit 17 of the sequence */
+#define V91_SECONDARY(data) ((uint64_t)(data) << 2)          /* bits 2 to 55: bits 24 to 77, secondary channel data */
+
+#define V91_HEARD_BYTES 8                                    /* byte 0, one of those below; then the 56 bits in 7 bytes */
+enum v91_heard {
+    V91_HEARD_NONE = 0,              /* no sequence ends in the call */
+    V91_HEARD_SEQUENCE = 1,          /* one does, and its 56 bits follow; they are zeros with all others */
+    V91_HEARD_FRAME_LOST = 2,        /* one does, and a control frame of it was marked */
+    V91_HEARD_PATTERN_WRONG = 3,     /* one does, and bits 0 to 15 are not the pattern */
+    V91_HEARD_CRC_WRONG = 4          /* one does, and the CRC does not match */
+};
 
 /* ---- a plan: one mask, and the sum of the squared linear values of its points */
 
@@ -110,6 +139,12 @@ enum v91_refusal {
 #define V91_FRAME_BITS(drn) ((size_t)(drn) + 20)             /* D: the data bits of a frame; drn 1 to 28 */
 #define V91_DATA_BITS(frames, drn) ((size_t)(frames) * V91_FRAME_BITS(drn))
 #define V91_DATA_BYTES(frames, drn) ((V91_DATA_BITS(frames, drn) + 7) / 8)
+
+/* With the control channel on: how many control frames so many frames from a frame place on have, and their data. */
+#define V91_CONTROL_FRAMES(frames, place) (((size_t)(frames) + ((size_t)(place) + 63) % 64) / 64)
+#define V91_DATA_BITS_ON(frames, drn, place) (V91_DATA_BITS(frames, drn) - 6 * V91_CONTROL_FRAMES(frames, place))
+#define V91_DATA_BYTES_ON(frames, drn, place) ((V91_DATA_BITS_ON(frames, drn, place) + 7) / 8)
+
 #define V91_OCTETS(frames) ((size_t)(frames) * 6)
 
 #define V91_FRAMES 1024                                      /* the most frames of a call, */
@@ -129,21 +164,24 @@ uint32_t v91_read_cp(const uint8_t *cp, size_t cp_len, size_t bit_count,
    16 for a short record, 4, 9, 10, 25, 11, 12, 17. */
 uint32_t v91_write_cp(const uint8_t *record, size_t record_len, uint8_t *cp, size_t cp_len);
 
-/* Sends frames x (drn + 20) data bits as 6 x frames octets. Answers 0 or a refusal: 16 for a short record or
-   state, 4, 9, 10, 25, 11 to 14, 18, 15, 16, 17. After 0 the state is the one left; a call of no frames writes
-   no byte. */
-uint32_t v91_send(const uint8_t *record, size_t record_len, bool a_law, size_t frames,
+/* Sends frames x (drn + 20) data bits, 6 fewer for each control frame, as 6 x frames octets. Where a sequence of the
+   control channel starts in the call, it is made from the 56 bits of `sequence`; bits 56 to 63 are ignored, and so are
+   all of them where none starts. Answers 0 or a refusal: 16 for a short record or state, 4, 9, 10, 25, 11 to 14, 18,
+   19, 15, 16, 17. After 0 the state is the one left; a call of no frames writes no byte. */
+uint32_t v91_send(const uint8_t *record, size_t record_len, bool a_law, size_t frames, bool control, uint64_t sequence,
                   const uint8_t *bits, size_t bits_len, uint8_t *octets, size_t octets_len,
                   uint8_t *state, size_t state_len);
 
-/* Receives 6 x frames octets as frames x (drn + 20) data bits, with zeros up to the end of the last byte,
-   and one mark for each frame. Answers 0 or a refusal: 16 for a short record or state, 4, 9, 10, 25, 11 to 14,
-   18, 15, 16, 17. After 0 the state is the one left; a call of no frames writes no byte. Mark 0: a good frame.
-   Mark 1 to 6: the first interval whose Ucode is not in its mask. Mark 7: the number is 2^K or more. The bits of
-   a marked frame are zeros. */
-uint32_t v91_receive(const uint8_t *record, size_t record_len, bool a_law, size_t frames,
+/* Receives 6 x frames octets as frames x (drn + 20) data bits, 6 fewer for each control frame, with zeros up to the
+   end of the last byte, and one mark for each frame. Writes 8 bytes of `heard`: what is heard of a sequence of the
+   control channel that ends in the call. Answers 0 or a refusal: 16 for a short record or state, 4, 9, 10, 25, 11 to
+   14, 18, 19, 15, 16, 17. After 0 the state is the one left; a call of no frames writes no byte but those of `heard`.
+   Mark 0: a good frame. Mark 1 to 6: the first interval whose Ucode is not in its mask. Mark 7: the number is 2^K or
+   more. The data bits of a marked frame are zeros; a marked control frame is lost to its sequence. */
+uint32_t v91_receive(const uint8_t *record, size_t record_len, bool a_law, size_t frames, bool control,
                      const uint8_t *octets, size_t octets_len, uint8_t *bits, size_t bits_len,
-                     uint8_t *marks, size_t marks_len, uint8_t *state, size_t state_len);
+                     uint8_t *marks, size_t marks_len, uint8_t *heard, size_t heard_len,
+                     uint8_t *state, size_t state_len);
 
 /* Turns each octet into its signed linear value; samples_len counts samples. Answers 0 or 17. */
 uint32_t v91_linear(bool a_law, const uint8_t *octets, size_t octets_len,

@@ -116,7 +116,7 @@ def example_cp():
 
 def reception(octets):
     """(Data, marks) that the example's receiver makes of three frames."""
-    return receive(EXAMPLE, MU, 3, FRESH, octets, bytes(8), bytes(3))[2:]
+    return receive(EXAMPLE, MU, 3, FRESH, 0, octets, bytes(8), bytes(3))[3:]
 
 
 def line_and_reception(octets):
@@ -137,7 +137,7 @@ def wrong_bits(sent, heard, first, count):
 def demo_lines():
     """The lines of `v91 demo`: the example's CP, 63 one bits sent, received, and damaged."""
     ones = (2**63 - 1).to_bytes(8, "little")
-    octets = send(EXAMPLE, MU, 3, FRESH, ones, bytes(18))[2]
+    octets = send(EXAMPLE, MU, 3, FRESH, 0, 0, ones, bytes(18))[2]
     damaged = octets[:2] + bytes([octet_of(MU, 1, 127)]) + octets[3:]
     width = frame_bits(EXAMPLE)
     sound = width + MOST_DOUBTFUL

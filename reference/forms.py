@@ -1,24 +1,27 @@
 """The stored cases: one call of an entry as a byte string, and its answer as another.
 
 A case begins with its kind. The last field takes all the rest; count8 is 8 bytes and len2 2 bytes,
-low byte first; a record is 105 bytes, a line state 6, a law 1. A refusal is 2 bytes: its number, 0
-for none, and its value, which is the interval for 25 and 0 for all others.
+low byte first; a record is 105 bytes, a line state 21, a law 1, whether the control channel is on
+1, the bits of a sequence 8 and what is heard 8. A refusal is 2 bytes: its number, 0 for none, and
+its value, which is the interval for 25 and 0 for all others.
 
     00  read_cp   count8 bit count, CP bytes
                   -> refusal, record
     01  write_cp  record, buffer
                   -> refusal, len2 bit count, buffer
-    02  send      record, law, count8 frames, state, len2 octets lent, data
+    02  send      record, law, count8 frames, state, channel, sequence, len2 octets lent, data
                   -> refusal, state, octets
-    03  receive   record, law, count8 frames, state, len2 bits lent, len2 marks lent, octets
-                  -> refusal, state, bits, marks
+    03  receive   record, law, count8 frames, state, channel, len2 bits lent, len2 marks lent,
+                  octets
+                  -> refusal, state, heard, bits, marks
     04  linear    law, len2 samples lent, octets
                   -> refusal, samples of 4 bytes
 
 A buffer of which only the length is given is handed in with the contents `octets_lent`,
-`bits_lent`, `marks_lent` or `samples_lent`.
+`bits_lent`, `marks_lent` or `samples_lent`. The channel is on where its byte is not 0.
 """
 
+import control
 import cp
 import frames
 import linear
@@ -74,21 +77,22 @@ def write_case(rec, buffer):
     return bytes([WRITE_CP]) + record.pack(rec) + buffer
 
 
-def call_head(kind, rec, law, count, state):
+def call_head(kind, rec, law, count, state, channel):
     """What a case of send and one of receive begin with."""
     return (bytes([kind]) + record.pack(rec) + bytes([law]) + count8(count)
-            + frames.pack_state(state))
+            + frames.pack_state(state) + bytes([channel]))
 
 
-def send_case(rec, law, count, state, data, room):
+def send_case(rec, law, count, state, data, room, channel=0, sequence=0):
     """A case of send with `room` octets lent."""
-    return call_head(SEND, rec, law, count, state) + len2(room) + data
+    head = call_head(SEND, rec, law, count, state, channel)
+    return head + count8(sequence) + len2(room) + data
 
 
-def receive_case(rec, law, count, state, octets, bit_room, mark_room):
+def receive_case(rec, law, count, state, octets, bit_room, mark_room, channel=0):
     """A case of receive with `bit_room` and `mark_room` bytes lent."""
     rooms = len2(bit_room) + len2(mark_room)
-    return call_head(RECEIVE, rec, law, count, state) + rooms + octets
+    return call_head(RECEIVE, rec, law, count, state, channel) + rooms + octets
 
 
 def linear_case(law, octets, room):
@@ -107,13 +111,13 @@ def arguments(case):
         return kind, (record.unpack(form[:105]), form[105:])
     if kind == LINEAR:
         return kind, (form[0], form[3:], samples_lent(number(form[1:3])))
-    rec, law = record.unpack(form[:105]), form[105]
-    count, state = number(form[106:114]), frames.unpack_state(form[114:120])
+    rec, law, count = record.unpack(form[:105]), form[105], number(form[106:114])
+    head = rec, law, count, frames.unpack_state(form[114:135]), int(form[135] != 0)
     if kind == SEND:
-        lent = octets_lent(number(form[120:122]))
-        return kind, (rec, law, count, state, form[122:], lent)
-    lent = bits_lent(number(form[120:122])), marks_lent(number(form[122:124]))
-    return kind, (rec, law, count, state, form[124:], *lent)
+        lent = octets_lent(number(form[144:146]))
+        return kind, (*head, number(form[136:144]), form[146:], lent)
+    lent = bits_lent(number(form[136:138])), marks_lent(number(form[138:140]))
+    return kind, (*head, form[140:], *lent)
 
 
 def outcome(case):
@@ -154,4 +158,7 @@ def answer(case):
         return head + len2(rest[0]) + rest[1]
     if case[0] == LINEAR:
         return head + b"".join(value.to_bytes(4, "little", signed=True) for value in rest[0])
-    return head + frames.pack_state(rest[0]) + b"".join(rest[1:])
+    head += frames.pack_state(rest[0])
+    if case[0] == RECEIVE:
+        return head + control.pack(rest[1]) + b"".join(rest[2:])
+    return head + rest[1]

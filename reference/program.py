@@ -2,19 +2,20 @@
 
 A command reads its input, writes to its output, which is a file or standard output, and says
 sentences, which go to standard output. Not modelled is what the stored script leaves out: the text
-of help, the order of data and sentences about marked frames on one output, an output that cannot be
+of help, the order of data and sentences about frames on one output, an output that cannot be
 written, and `<` or `>` without a command before or a file after it.
 """
 
 import re
 from collections import namedtuple
 
+import control
 from cp import write_cp
 from describe import (counted, demo_lines, description, example_cp, read_file, refusal_sentence,
                       shown)
 from dil import TABLE_5, length as dil_length, send_dil
-from frames import (COLD, FRESH, MOST_DOUBTFUL, MOST_FRAMES, add_bits, data_bytes, frame_bits,
-                    get_bits, receive_frame, send_frame)
+from frames import (COLD, FRESH, MOST_DOUBTFUL, MOST_FRAMES, add_bits, data_bits, data_bytes,
+                    ends_sequence, get_bits, receive_frame, send_frame, width_of)
 from linear import linear
 from picture import LAW_NAMES, Picture, found_line, svg_lines, text_lines
 from plan import MOST_CEILING, RATES, SPACINGS, largest_spacing, plan, points_wanted
@@ -23,7 +24,7 @@ from table1 import A, MU
 
 LAWS = {"mu": MU, "ulaw": MU, "a": A, "alaw": A}
 MOST_RUNS = 20
-VERSION = "v91 4"
+VERSION = "v91 5"
 HELP = ("help", "--help", "-h")
 
 NO_FILE = "there is no such file"
@@ -67,16 +68,40 @@ def law_named(word):
     return LAWS[word.lower()]
 
 
-def check_options(command, words, taken):
-    """Stop unless each word is one of those taken."""
-    if not {word.lower() for word in words} <= set(taken):
-        kind = "words" if len(taken) > 1 else "word"
-        raise Failed(f"after LAW {command} takes the {kind} {' and '.join(taken)} alone")
+def has_word(words, wanted):
+    """Whether a word is there, in capitals or not."""
+    return wanted in [word.lower() for word in words]
 
 
 def is_number(word):
     """Whether a word is a number of 1 to 18 digits."""
     return bool(re.fullmatch("[0-9]{1,18}", word))
+
+
+def is_data(word):
+    """Whether a word is data of the secondary channel: 1 to 54 binary digits."""
+    return bool(re.fullmatch(f"[01]{{1,{control.DATA_BITS}}}", word))
+
+
+def check_send_words(words):
+    """Stop unless send takes the words that follow LAW."""
+    of_channel = ["cleardown", "retrain"] if has_word(words, "control") else []
+    taken = {"exact", "progress", "control", *of_channel}
+    if not all(word.lower() in taken or of_channel and is_data(word) for word in words):
+        raise Failed("after LAW send takes the words exact, progress and control alone, and after "
+                     f"control cleardown, retrain and up to {control.DATA_BITS} binary digits")
+
+
+def data_told(words):
+    """The data of the secondary channel, the last such word; its first digit is the lowest bit."""
+    digits = ["0", *filter(is_data, words)][-1]
+    return int(digits[::-1], 2)
+
+
+def number_told(words):
+    """The 56 bits of the sequences that send starts."""
+    cleardown, retrain = has_word(words, "cleardown"), has_word(words, "retrain")
+    return cleardown | retrain << 1 | data_told(words) << 2
 
 
 def bytes_wanted(words):
@@ -85,15 +110,15 @@ def bytes_wanted(words):
     for word in words:
         if is_number(word):
             wanted = int(word)
-        elif word.lower() not in ("cold", "progress"):
+        elif word.lower() not in ("cold", "control", "progress"):
             raise Failed("after LAW receive takes BYTES, a number of 1 to 18 digits, "
-                         "and the words cold and progress alone")
+                         "and the words cold, control and progress alone")
     return wanted
 
 
 def state_told(words):
     """The state in which the receiver begins: cold where the word cold follows LAW, else fresh."""
-    return COLD if "cold" in [word.lower() for word in words] else FRESH
+    return COLD if has_word(words, "cold") else FRESH
 
 
 def cp_in(files, name):
@@ -110,26 +135,31 @@ def cp_in(files, name):
 
 # Sending
 
-def frame_count(record, data, exact):
+def frame_count(record, channel, data, exact):
     """The frames that data makes: only whole ones, or the last one filled."""
-    filled = 0 if exact else frame_bits(record) - 1
-    return (8 * len(data) + filled) // frame_bits(record)
+    count = 8 * len(data) // data_bits(record, 1)
+    while data_bits(record, count + 1, channel) <= 8 * len(data):
+        count += 1
+    filled = data_bits(record, count, channel) < 8 * len(data) and not exact
+    return count + 1 if filled else count
 
 
-def octets_for(record, law, count, data):
+def octets_for(record, law, channel, number, count, data):
     """The octets of so many frames of data, with zero bits behind it, from the fresh state."""
-    state, width = FRESH, frame_bits(record)
-    frames = []
-    for n in range(count):
-        octets, state = send_frame(record, law, state, get_bits(data, n * width, width))
+    state, frames, at = FRESH, [], 0
+    for _ in range(count):
+        width = width_of(record, channel, state)
+        bits = get_bits(data, at, width)
+        octets, state = send_frame(record, law, state, channel, number, bits)
         frames.append(octets)
+        at += width
     return b"".join(frames)
 
 
-def sent_sentence(record, count, data):
+def sent_sentence(record, channel, count, data):
     """What is said of frames sent."""
     sent = f"{counted(count, 'frame')} sent"
-    filled = count * frame_bits(record) - 8 * len(data)
+    filled = data_bits(record, count, channel) - 8 * len(data)
     if filled > 0:
         return f"{sent}; {counted(filled, 'zero bit')} added to fill the last one"
     if filled < 0:
@@ -139,30 +169,33 @@ def sent_sentence(record, count, data):
 
 
 def send(call, cp_name, law_name, *options):
-    """`send CPFILE LAW [exact] [progress]`."""
+    """`send CPFILE LAW [exact] [progress] [control [cleardown] [retrain] [BITS]]`."""
     law = law_named(law_name)
-    check_options("send", options, ("exact", "progress"))
+    check_send_words(options)
     record = cp_in(call.files, cp_name)
-    exact = "exact" in [option.lower() for option in options]
-    count = frame_count(record, call.input, exact)
+    channel, number = has_word(options, "control"), number_told(options)
+    count = frame_count(record, channel, call.input, has_word(options, "exact"))
     if count and record.drn == 0:
         raise Failed(CLEARDOWN)
-    call.write(octets_for(record, law, count, call.input))
-    call.say(sent_sentence(record, count, call.input))
+    call.write(octets_for(record, law, channel, number, count, call.input))
+    call.say(sent_sentence(record, channel, count, call.input))
 
 
 # Receiving
 
 # What the receiver made of frames: the data bits in bytes, the marks, how many bits of good frames
-# are doubtful, and the state left.
-Reception = namedtuple("Reception", "data marks doubtful state")
+# are doubtful, what is heard of sequences as (frame, Heard), and the state left.
+Reception = namedtuple("Reception", "data marks doubtful heard state")
 
 
-def octets_read(record, octets, wanted):
-    """The octets that are read: calls of 1,024 frames, as many as BYTES asks for."""
+def octets_read(record, channel, octets, wanted):
+    """The octets that are read: calls of 1,024 frames, as many as BYTES asks for.
+
+    Each of them has the same number of whole bytes: with the channel on 16 are control frames.
+    """
     if wanted is None:
         return octets
-    calls = -(-wanted // data_bytes(record, MOST_FRAMES))
+    calls = -(-wanted // data_bytes(record, MOST_FRAMES, channel))
     return octets[:6 * MOST_FRAMES * calls]
 
 
@@ -171,17 +204,20 @@ def doubtful_bits(mark, width, count):
     return 0 if mark else min(width, count)
 
 
-def reception(record, law, state, octets):
-    """What the receiver makes of the whole frames among octets, from a state."""
-    count, width = len(octets) // 6, frame_bits(record)
-    data, marks, doubtful = bytearray(data_bytes(record, count)), [], 0
+def reception(record, law, channel, state, octets):
+    """What the receiver makes of the whole frames among octets, from a state at frame place 0."""
+    count, at = len(octets) // 6, 0
+    data, marks, doubtful, heard = bytearray(data_bytes(record, count, channel)), [], 0, []
     for n in range(count):
-        before = state.doubtful
-        mark, bits, state = receive_frame(record, law, state, octets[6 * n:6 * n + 6])
-        add_bits(data, n * width, width, bits)
+        before, width = state, width_of(record, channel, state)
+        mark, bits, state = receive_frame(record, law, state, channel, octets[6 * n:6 * n + 6])
+        add_bits(data, at, width, bits)
+        at += width
         marks.append(mark)
-        doubtful += doubtful_bits(mark, width, before)
-    return Reception(bytes(data), marks, doubtful, state)
+        doubtful += doubtful_bits(mark, width, before.doubtful)
+        if ends_sequence(channel, before):
+            heard.append((n, control.heard_in(state.sequence, state.lost)))
+    return Reception(bytes(data), marks, doubtful, heard, state)
 
 
 def runs_of(marks):
@@ -204,10 +240,48 @@ def run_sentence(mark, first, last, good_follows):
     return f"{where}: {what}{doubt}"
 
 
+def marked_runs(marks):
+    """The runs of marked frames."""
+    return [run for run in runs_of(marks) if run[0]]
+
+
 def run_sentences(marks):
     """What is said of each run of marked frames."""
     return [run_sentence(mark, first, last, marks[last + 1:last + 2] == [0])
-            for mark, first, last in runs_of(marks) if mark]
+            for mark, first, last in marked_runs(marks)]
+
+
+def digits_of(number):
+    """The data of the secondary channel in 54 digits, the first in time first."""
+    return "".join(str(number >> 2 + n & 1) for n in range(control.DATA_BITS))
+
+
+def heard_words(heard):
+    """What is said of a sequence that has ended."""
+    cleardown, retrain = (("no", "yes")[heard.number >> n & 1] for n in (0, 1))
+    return {
+        control.HEARD: f"heard: cleardown {cleardown}, retrain {retrain}, "
+                       f"data {digits_of(heard.number)}",
+        control.FRAME_LOST: "lost, a frame of it is marked",
+        control.PATTERN_WRONG: "wrong, its pattern",
+        control.CRC_WRONG: "wrong, its CRC",
+    }[heard.what]
+
+
+def sequence_sentence(frame, heard):
+    """What is said of a sequence whose last frame has this number."""
+    return f"frame {frame}: control sequence {heard_words(heard)}"
+
+
+def frame_sentences(got):
+    """What is said of runs of marked frames, the first ones alone, and of sequences, in order.
+
+    A run is said when the frame after it comes, and then a sequence that ends with that frame.
+    """
+    runs = zip(marked_runs(got.marks), run_sentences(got.marks))
+    said = [(last + 1, 0, sentence) for (_, _, last), sentence in runs][:MOST_RUNS]
+    said += [(frame, 1, sequence_sentence(frame, heard)) for frame, heard in got.heard]
+    return [sentence for _, _, sentence in sorted(said)]
 
 
 def received_sentence(marks):
@@ -230,7 +304,7 @@ def summary(got):
 
 
 def say_reception(call, got, left_over):
-    """Say what was received, but for the runs of marked frames that were said before."""
+    """Say what was received, but for the runs and sequences that were said before."""
     more = len(run_sentences(got.marks)) - MOST_RUNS
     if more > 0:
         call.say(f"{counted(more, 'more run')} of marked frames")
@@ -241,16 +315,16 @@ def say_reception(call, got, left_over):
 
 
 def receive(call, cp_name, law_name, *options):
-    """`receive CPFILE LAW [BYTES] [cold] [progress]`."""
+    """`receive CPFILE LAW [BYTES] [cold] [control] [progress]`."""
     law, wanted, state = law_named(law_name), bytes_wanted(options), state_told(options)
-    record = cp_in(call.files, cp_name)
-    octets = octets_read(record, call.input, wanted)
+    record, channel = cp_in(call.files, cp_name), has_word(options, "control")
+    octets = octets_read(record, channel, call.input, wanted)
     count, left_over = divmod(len(octets), 6)
     if count and record.drn == 0:
-        raise Failed(*summary(reception(record, law, state, b"")), CLEARDOWN)
-    got = reception(record, law, state, octets)
-    whole, rest = divmod(count * frame_bits(record), 8)
-    for sentence in run_sentences(got.marks)[:MOST_RUNS]:
+        raise Failed(*summary(reception(record, law, channel, state, b"")), CLEARDOWN)
+    got = reception(record, law, channel, state, octets)
+    whole, rest = divmod(data_bits(record, count, channel), 8)
+    for sentence in frame_sentences(got):
         call.say(sentence)
     call.write(got.data[:wanted])
     say_reception(call, got, left_over)
@@ -361,7 +435,8 @@ def tell_cp(call, name):
 def tell_linear(call, law_name, *options):
     """`linear LAW [progress]`."""
     law = law_named(law_name)
-    check_options("linear", options, ("progress",))
+    if options and not has_word(options, "progress"):
+        raise Failed("after LAW linear takes the word progress alone")
     call.write_lines(linear(law, call.input, [0] * len(call.input))[1])
 
 
@@ -388,7 +463,7 @@ def tell_version(call):
 
 
 # Each command with the least and the most words after it.
-COMMANDS = {"cp": (tell_cp, 1, 1), "send": (send, 2, 4), "receive": (receive, 2, 5),
+COMMANDS = {"cp": (tell_cp, 1, 1), "send": (send, 2, 8), "receive": (receive, 2, 6),
             "linear": (tell_linear, 1, 2), "dil": (write_dil, 1, 1), "plan": (write_plan, 4, 5),
             "demo": (demo, 0, 1), "--version": (tell_version, 0, 0)}
 
@@ -442,12 +517,16 @@ def run_command(files, words, output):
         files[target] = bytes(written)
 
 
-def transcript(files, script):
-    """What `v91 run` writes to standard output; the files that commands write go into `files`."""
-    output = bytearray()
+def outputs(files, script):
+    """What `v91 run` writes for each line of a script; files that are written go into `files`."""
     for line in lines_of(script):
-        output += f"{line}\n".encode()
+        output = bytearray(f"{line}\n".encode())
         words = words_of(line)
         if words and not line.startswith("#"):
             run_command(files, words, output)
-    return bytes(output)
+        yield bytes(output)
+
+
+def transcript(files, script):
+    """What `v91 run` writes to standard output."""
+    return b"".join(outputs(files, script))

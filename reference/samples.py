@@ -3,7 +3,8 @@
 import math
 import random
 
-from frames import MOST_DOUBTFUL, State
+import control
+from frames import FRAME_PLACES, MOST_DOUBTFUL, SEQUENCE_PLACES, State
 from record import FULL_MASK, k_of, make, masks_of, sizes_of
 
 
@@ -80,9 +81,38 @@ def a_doubt(draw):
     return draw.pick((0, MOST_DOUBTFUL, draw.between(0, MOST_DOUBTFUL)))
 
 
+def a_frame_place(draw):
+    """A frame place within bounds, often that of a control frame or one just before it."""
+    return draw.pick((0, 0, FRAME_PLACES - 1, draw.between(56, 63), draw.below(FRAME_PLACES)))
+
+
+def a_sequence_place(draw):
+    """A sequence place within bounds, often the first or the last."""
+    return draw.pick((0, SEQUENCE_PLACES - 1, draw.below(SEQUENCE_PLACES)))
+
+
+def a_number(draw):
+    """The bits of a sequence as handed in: 56, at times more, at times few ones or few zeros."""
+    few = 1 << draw.below(56)
+    return draw.pick((draw.bits(56), draw.bits(56), draw.bits(64), draw.bits(2), few,
+                      2**56 - 1 ^ few, 2**64 - 1))
+
+
+def some_sequence_bits(draw):
+    """What a state has as the bits of a sequence: a whole one, or any bits."""
+    return draw.pick((control.sequence_of(a_number(draw)), draw.bits(control.BITS)))
+
+
+def with_places(draw, state):
+    """The state with other fields of the control channel, within bounds."""
+    return state._replace(frame_place=a_frame_place(draw), sequence_place=a_sequence_place(draw),
+                          sequence=some_sequence_bits(draw), lost=draw.below(2))
+
+
 def a_state(draw):
-    """A line state within bounds."""
-    return State(draw.bits(23), draw.below(2), a_doubt(draw))
+    """A line state within bounds; the fields of the control channel are zeros in part."""
+    state = State(draw.bits(23), draw.below(2), a_doubt(draw))
+    return with_places(draw, state) if draw.below(3) else state
 
 
 # Records at fault

@@ -11,12 +11,13 @@ import traceback
 from bisect import bisect_left
 from contextlib import ExitStack, contextmanager
 from functools import lru_cache
-from itertools import product, zip_longest
+from itertools import accumulate, product, zip_longest
 from unittest.mock import patch
 from xml.etree import ElementTree
 
 import cases_cp
 import cases_frames
+import control
 import cp
 import describe
 import dil
@@ -32,7 +33,8 @@ from frames import COLD, FRESH, State
 from linear import linear
 from record import EMPTY, EXAMPLE, FULL_MASK, k_of, make, mask_of
 from refusals import ORDER, Refusal, in_order
-from samples import TWO_EMPTY, Draw, a_record, a_sparse_record, a_state
+from samples import (TWO_EMPTY, Draw, a_number, a_record, a_sequence_place, a_sparse_record,
+                     a_state, with_places)
 from table1 import (A, LINEAR, MU, linear_of, octet_by_rule, octet_of, rows, ucode_of,
                     value_by_rule, value_of)
 
@@ -70,20 +72,28 @@ def table_1():
 
 # The bench examples of document 01
 
-def sent(record, law, count, state, data):
+def sent(record, law, count, state, data, channel=0, number=0):
     """(Octets, state) of a call that is not declined."""
-    refusal, state, octets = frames.send(record, law, count, state, data, bytes(6 * count))
+    refusal, state, octets = frames.send(record, law, count, state, channel, number, data,
+                                         bytes(6 * count))
     same(refusal, None, "refusal of send")
     return octets, state
 
 
-def received(record, law, state, octets):
+def received(record, law, state, octets, channel=0):
     """(Marks, data bits as a number, state) of a call that is not declined."""
+    marks, bits, state, _ = heard(record, law, state, octets, channel)
+    return marks, bits, state
+
+
+def heard(record, law, state, octets, channel):
+    """(Marks, data bits as a number, state, what is heard) of a call that is not declined."""
     count = len(octets) // 6
-    lent = bytes(frames.data_bytes(record, count)), bytes(count)
-    refusal, state, bits, marks = frames.receive(record, law, count, state, octets, *lent)
+    lent = bytes(frames.data_bytes(record, count, channel, state.frame_place)), bytes(count)
+    refusal, state, told, bits, marks = frames.receive(record, law, count, state, channel, octets,
+                                                       *lent)
     same(refusal, None, "refusal of receive")
-    return list(marks), int.from_bytes(bits, "little"), state
+    return list(marks), int.from_bytes(bits, "little"), state, told
 
 
 def of_labels(*labels):
@@ -131,8 +141,8 @@ def answers_to(record):
     """The refusals of the reader, the writer, the sender and the receiver for one record."""
     return [cp.read_cp(cases_cp.plain(record), cases_cp.length_of(record))[0],
             cp.write_cp(record, bytes(122))[0],
-            frames.send(record, MU, 0, FRESH, b"", b"")[0],
-            frames.receive(record, MU, 0, FRESH, b"", b"", b"")[0]]
+            frames.send(record, MU, 0, FRESH, 0, 0, b"", b"")[0],
+            frames.receive(record, MU, 0, FRESH, 0, b"", b"", b"")[0]]
 
 
 def example_sizes():
@@ -236,40 +246,51 @@ def refused_send(draw, state):
 
 
 def refused_receive(draw, state):
-    """A call of the receiver that is declined returns the state it got."""
+    """A call of the receiver that is declined returns the state it got, and nothing is heard."""
     number = cases_frames.a_refused_number(draw, cases_frames.NUMBERS)
     case = cases_frames.faulty_receive(draw, {number}, state)
-    refusal, after, _, _ = forms.outcome(case)
-    check(refusal and after == state, "a refused receiver's call")
+    refusal, after, told, _, _ = forms.outcome(case)
+    check(refusal and after == state and told == control.NOTHING, "a refused receiver's call")
 
 
-def sender_list(draw, record, law, state, total):
+def widths_of(record, place, choices):
+    """The data bits of each frame, from a frame place on, by whether the channel is on there."""
+    widths = []
+    for channel in choices:
+        widths.append(k_of(record) + (0 if channel and place == 0 else 6))
+        place = (place + 1) % 64 if channel else place
+    return widths
+
+
+def sender_list(draw, record, law, state, choices):
     """(Message, octets sent) of a sender's list of calls, refused ones among them."""
     message, line = [], b""
-    for count in cases_frames.a_cut(draw, total):
+    for channel, count in cases_frames.cut_by_choice(draw, choices):
         if draw.below(4) == 0:
             refused_send(draw, state)
-        data = draw.octets(frames.data_bytes(record, count))
-        octets, state = sent(record, law, count, state, data)
-        message += bits_in(data, count * frames.frame_bits(record))
+        widths = widths_of(record, state.frame_place, [channel] * count)
+        data = draw.octets((sum(widths) + 7) // 8)
+        octets, state = sent(record, law, count, state, data, channel, a_number(draw))
+        message += bits_in(data, sum(widths))
         line += octets
     return message, line
 
 
-def receiver_list(draw, record, law, state, line):
+def receiver_list(draw, record, law, state, line, choices):
     """(Bits handed over, marks, counts) of a receiver's list of calls, refused ones among them.
 
     The counts are those of doubtful bits in the states between calls: {frames read: count}.
     """
     handed, marks, counts = [], [], {0: state.doubtful}
-    for count in cases_frames.a_cut(draw, len(line) // 6):
+    for channel, count in cases_frames.cut_by_choice(draw, choices):
         if draw.below(4) == 0:
             refused_receive(draw, state)
         part, line = line[:6 * count], line[6 * count:]
-        bits_lent = draw.octets(frames.data_bytes(record, count))
-        _, state, bits, call_marks = frames.receive(record, law, count, state, part, bits_lent,
-                                                    draw.octets(count))
-        handed += bits_in(bits, count * frames.frame_bits(record))
+        width = sum(widths_of(record, state.frame_place, [channel] * count))
+        bits_lent = draw.octets((width + 7) // 8)
+        _, state, _, bits, call_marks = frames.receive(record, law, count, state, channel, part,
+                                                       bits_lent, draw.octets(count))
+        handed += bits_in(bits, width)
         marks += call_marks
         if not count:
             same(state.doubtful, counts[len(marks)], "the count after no frames")
@@ -277,29 +298,53 @@ def receiver_list(draw, record, law, state, line):
     return handed, marks, counts
 
 
+def a_start(draw):
+    """A sender's state, often just before a control frame, and choices for some frames."""
+    start = draw.pick((FRESH, a_state(draw)))
+    if draw.below(2):
+        return start, [0] * draw.between(1, 12)
+    start = with_places(draw, start)._replace(frame_place=draw.pick((0, 63, draw.between(52, 63))))
+    return start, cases_frames.some_choices(draw, draw.pick((3, 12, draw.between(1, 80))))
+
+
+def elsewhere(draw, start):
+    """Another state with the same frame place and sequence place."""
+    return with_places(draw, a_state(draw))._replace(frame_place=start.frame_place,
+                                                     sequence_place=start.sequence_place)
+
+
+def hurt_frames(draw, record, law, line):
+    """(The line with any octets in place of frames a to b, or as it is; which frames these are)."""
+    total = len(line) // 6
+    a = draw.below(total)
+    hurt = range(a, draw.between(a, min(a + 2, total - 1)) + 1) if draw.below(3) else range(0)
+    for i in hurt:
+        mark = draw.pick([0] + cases_frames.possible_marks(record))
+        frame = draw.pick((draw.octets(6), cases_frames.a_frame(draw, record, law, mark)))
+        line = line[:6 * i] + frame + line[6 * i + 6:]
+    return line, hurt
+
+
 def demand_3():
-    """Bits wrong only in frames a to b, the 24 after them, and the first 24 from another state."""
+    """Bits wrong only in frames a to b, the 24 after them, and the first 24 from another state.
+
+    In half of the runs the channel is on and off, by a choice at each frame.
+    """
     draw = Draw(3)
     for n in range(1200):
-        record, law, total = a_record(draw, 1 + n % 28), draw.below(2), draw.between(1, 12)
-        width = frames.frame_bits(record)
-        start = draw.pick((FRESH, a_state(draw)))
-        message, line = sender_list(draw, record, law, start, total)
+        record, law, (start, choices) = a_record(draw, 1 + n % 28), draw.below(2), a_start(draw)
+        message, line = sender_list(draw, record, law, start, choices)
         begin, doubtful = start, set()
         if draw.below(2):
-            begin, doubtful = a_state(draw), set(range(24))
-        a = draw.below(total)
-        b = draw.between(a, min(a + 2, total - 1))
-        hurt = range(a, b + 1) if draw.below(3) else range(0)
-        for i in hurt:
-            mark = draw.pick([0] + cases_frames.possible_marks(record))
-            frame = draw.pick((draw.octets(6), cases_frames.a_frame(draw, record, law, mark)))
-            line = line[:6 * i] + frame + line[6 * i + 6:]
+            begin, doubtful = elsewhere(draw, start), set(range(24))
+        line, hurt = hurt_frames(draw, record, law, line)
+        ends = [0, *accumulate(widths_of(record, start.frame_place, choices))]
+        same(len(message), ends[-1], "bits of the message")
         if hurt:
-            doubtful |= set(range(a * width, (b + 1) * width + 24))
-        stop = draw.between(0, total)
-        handed, marks, _ = receiver_list(draw, record, law, begin, line[:6 * stop])
-        same(len(handed), stop * width, "bits handed over")
+            doubtful |= set(range(ends[hurt[0]], ends[hurt[-1] + 1] + 24))
+        stop = draw.between(0, len(choices))
+        handed, marks, _ = receiver_list(draw, record, law, begin, line[:6 * stop], choices[:stop])
+        same(len(handed), ends[stop], "bits handed over")
         wrong = {p for p in range(len(handed)) if handed[p] != message[p]}
         check(wrong <= doubtful, f"wrong bits {sorted(wrong - doubtful)}")
         check(all(marks[i] == 0 for i in range(stop) if i not in hurt), "a good frame is marked")
@@ -308,12 +353,12 @@ def demand_3():
 
 # Doubtful bits (A.1)
 
-def count_before(width, marks, begun, frame):
+def count_before(widths, marks, begun, frame):
     """The count before a frame: 24, or the one begun with, less the good bits since, or 0."""
     marked = [n for n in range(frame) if marks[n]]
     if marked:
-        return max(24 - width * (frame - 1 - marked[-1]), 0)
-    return max(begun - width * frame, 0)
+        return max(24 - sum(widths[marked[-1] + 1:frame]), 0)
+    return max(begun - sum(widths[:frame]), 0)
 
 
 def altered(draw, record, law, frame):
@@ -323,7 +368,7 @@ def altered(draw, record, law, frame):
         made[draw.below(6)] ^= draw.between(1, 255)
         mark = draw.pick(cases_frames.possible_marks(record))
         made = draw.pick((bytes(made), cases_frames.a_frame(draw, record, law, mark)))
-        if frames.receive_frame(record, law, FRESH, made)[0]:
+        if frames.judge_frame(record, law, made)[0]:
             return made
 
 
@@ -337,35 +382,36 @@ def with_marks(draw, record, law, line):
     return b"".join(made), damage
 
 
-def wrong_places(width, message, handed, marks):
+def wrong_places(widths, message, handed, marks):
     """The bits of good frames that are not as sent: (frame, place in it)."""
-    return [divmod(p, width) for p, bit in enumerate(handed)
-            if bit != message[p] and not marks[p // width]]
+    places = [(frame, place) for frame, width in enumerate(widths) for place in range(width)]
+    return [where for where, bit, other in zip(places, message, handed)
+            if bit != other and not marks[where[0]]]
 
 
-def distrusted_run(draw, record, law, total):
+def distrusted_run(draw, record, law, start, choices):
     """The kinds of edges that a run of marked damage met: how near its wrong bits come to a count.
 
     A receiver told cold begins in any history and sign; another in the sender's, with any count.
     """
-    width, start, cold = frames.frame_bits(record), a_state(draw), draw.below(2)
-    message, line = sender_list(draw, record, law, start, total)
+    widths, cold = widths_of(record, start.frame_place, choices), draw.below(2)
+    message, line = sender_list(draw, record, law, start, choices)
     line, damage = with_marks(draw, record, law, line)
     begun = 24 if cold else draw.pick((0, draw.between(0, 24)))
-    begin = (a_state(draw) if cold else start)._replace(doubtful=begun)
-    handed, marks, counts = receiver_list(draw, record, law, begin, line)
+    begin = (elsewhere(draw, start) if cold else start)._replace(doubtful=begun)
+    handed, marks, counts = receiver_list(draw, record, law, begin, line, choices)
     same([mark > 0 for mark in marks], damage, "frames marked")
-    before = [count_before(width, marks, begun, n) for n in range(total + 1)]
+    before = [count_before(widths, marks, begun, n) for n in range(len(choices) + 1)]
     for n, count in counts.items():
         same(count, before[n], "the count in a state")
     check(max(before) <= 24, "a count above 24")
     met = set()
-    for frame, place in wrong_places(width, message, handed, marks):
-        check(place < before[frame], f"bit {place} of frame {frame} is wrong, D = {width}")
+    for frame, place in wrong_places(widths, message, handed, marks):
+        check(place < before[frame], f"bit {place} of frame {frame} is wrong, K = {k_of(record)}")
         if place >= before[frame + 1]:
             met.add("past the count after the frame")
-        if place == before[frame] - 1:
-            met.add(("last after " + ("a mark" if any(marks[:frame]) else "a cold start"), width))
+        after = "after a mark" if any(marks[:frame]) else "after a cold start"
+        met.add((before[frame] - place, after, widths[frame] - k_of(record), k_of(record)))
     return met
 
 
@@ -373,21 +419,32 @@ def distrust():
     """A good frame's bits past as many as the count before it are as sent; no smaller count does.
 
     At each D some run has the last bit of the 24 wrong, after a mark and after a cold start; at
-    D = 48 no frame is marked.
+    D = 48 no frame is marked. In a control frame the sign before it changes no data bit: where all
+    24 could be in it, the last but one is the last that is wrong.
     """
     draw, met = Draw(12), set()
     for n in range(2800):
         record, law = a_record(draw, 1 + n % 28), draw.below(2)
-        met |= distrusted_run(draw, record, law, draw.between(1, 12))
-    same(met, {"past the count after the frame",
-               *(("last after a mark", width) for width in range(21, 48)),
-               *(("last after a cold start", width) for width in range(21, 49))}, "edges met")
+        met |= distrusted_run(draw, record, law, a_state(draw), [0] * draw.between(1, 12))
+    check({"past the count after the frame", *((1, "after a mark", 6, k) for k in range(15, 42)),
+           *((1, "after a cold start", 6, k) for k in range(15, 43))} <= met, "edges met")
+    for n in range(2800):
+        record, law = a_record(draw, 1 + n % 28), draw.below(2)
+        place = draw.pick((0, 0, 0, 63, draw.between(60, 62)))
+        start = cases_frames.at_places(draw, place, a_sequence_place(draw))
+        met |= distrusted_run(draw, record, law, start, [1] * 4)
+    check({*((2, "after a mark", 0, k) for k in range(24, 42)),
+           *((2, "after a cold start", 0, k) for k in range(24, 43))} <= met, "control frames")
+    check(not {(1, after, 0, k) for _, after, _, k in met - {"past the count after the frame"}
+               if k >= 24} & met, "the last bit of 24 in a control frame")
     line = sent(EXAMPLE, MU, 2, FRESH, bytes(6))[0]
     same(received(EXAMPLE, MU, State(0, 1, 24), line)[1:], (ones_at(0, 18, 23), State(0, 0, 0)),
          "B6 cold")
     same([received(EXAMPLE, MU, COLD, line[:6 * n])[2].doubtful for n in range(3)], [24, 3, 0],
          "counts of B6")
-    return "2800 runs"
+    same([received(EXAMPLE, MU, COLD, line[:6 * n], 1)[2].doubtful for n in range(3)], [24, 9, 0],
+         "counts of B6 with the channel on")
+    return "5600 runs"
 
 
 def same_but_count(state, other):
@@ -424,24 +481,29 @@ def stored_counts():
         kind, args = forms.arguments(case)
         if kind not in (forms.SEND, forms.RECEIVE):
             continue
-        record, _, count, state = args[:4]
+        record, _, count, state, channel = args[:5]
         if answer[0] == 18:
             declined.add((kind, min(count, 1)))
         if kind == forms.SEND and count == 1 and record == EXAMPLE:
             sent_counts.setdefault(state.doubtful, set()).add(answer[0])
         if kind == forms.RECEIVE and not answer[0]:
-            width, marks = frames.frame_bits(record), forms.outcome(case)[3][:count]
-            for n, mark in enumerate(marks):
-                before = count_before(width, marks, state.doubtful, n)
-                stepped.add((width, before, mark > 0))
-            same(forms.outcome(case)[1].doubtful,
-                 count_before(width, marks, state.doubtful, count), "a stored count")
+            widths = widths_of(record, state.frame_place, [channel] * count)
+            _, after, _, _, marks = forms.outcome(case)
+            for n, mark in enumerate(marks[:count]):
+                before = count_before(widths, marks, state.doubtful, n) if n < 40 else 0
+                stepped.add((widths[n] - k_of(record), widths[n], before, mark > 0))
+            same(after.doubtful, count_before(widths, marks, state.doubtful, count),
+                 "a stored count")
     same(sent_counts, {count: {18 if count > 24 else 0} for count in range(256)}, "those of send")
     same(declined, set(product((forms.SEND, forms.RECEIVE), (0, 1))), "18 with frames and without")
-    for width in (21, 22, 23, 24, 34, 47, 48):
+    for signs, width in (*product((6,), (21, 22, 23, 24, 34, 47, 48)),
+                         *product((0,), (15, 16, 21, 22, 23, 24, 25, 42))):
         edges = {0, 1, 23, 24} | {c for c in (width - 1, width, width + 1) if c <= 24}
-        wanted = set(product([width], edges, [False] if width == 48 else [False, True]))
-        check(wanted <= stepped, f"counts at D = {width}: {wanted - stepped}")
+        full = width - signs == 42
+        wanted = set(product([signs], [width], edges, [False]))
+        if signs and not full:
+            wanted |= set(product([signs], [width], edges, [True]))
+        check(wanted <= stepped, f"counts at {width} bits: {wanted - stepped}")
     return f"{len(sent_counts)} counts of the sender, {len(stepped)} steps of the receiver"
 
 
@@ -476,7 +538,7 @@ def stored_answers():
     check(len(of_cp) <= 1100, "lines of vectors_cp")
     check(max(map(len, of_cp)) <= 300, "a line of vectors_cp")
     texts = [stored_text(f"vectors_frames/{name}") for name in ("stdin", "stdout")]
-    check(sum(map(len, texts)) < 1_500_000, "size of vectors_frames")
+    check(sum(map(len, texts)) < 2_000_000, "size of vectors_frames")
     check(stored_text("vectors_pcm/stdout").count("\n") == 512, "lines of vectors_pcm")
     check(stored_text("vectors_dil/stdout").count("\n") == 885, "lines of vectors_dil")
     check(stored_text("vectors_plan/stdout").count("\n") == 1088, "lines of vectors_plan")
@@ -492,7 +554,9 @@ def lent_unchanged(case):
         return [0, args[1]]
     if kind == forms.LINEAR:
         return [args[2]]
-    return [args[3], *args[5:]]
+    if kind == forms.SEND:
+        return [args[3], args[7]]
+    return [args[3], control.NOTHING, *args[6:]]
 
 
 def stored_refusals():
@@ -538,7 +602,7 @@ def stored_coverage():
             if not answer[0] and args[2]:
                 calls.add((kind, k_of(args[0]), args[1]))
             if kind == forms.RECEIVE and not answer[0]:
-                given = forms.outcome(case)[3][:args[2]]
+                given = forms.outcome(case)[4][:args[2]]
                 marks |= {(frames.frame_bits(args[0]), mark) for mark in given}
     everything = {("drn", drn) for drn in range(29)} | {("g", g) for g in range(6)}
     same(read, everything, "rates and lengths read")
@@ -605,6 +669,320 @@ def empty_intervals():
     changed = stored_without_25()
     same(changed, sum(answer[0] == 25 for _, answer in both), "stored cases with 25")
     return f"4000 records, {changed} stored cases with 25 that else have 11"
+
+
+# Control channel (A.2)
+
+def cells(bits):
+    """The CRC of bits in the order of sending, by the sixteen cells of its generator."""
+    register = [1] * 16
+    for bit in bits:
+        fed, register = register[0] ^ bit, [*register[1:], 0]
+        for cell in (3, 10, 15):
+            register[cell] ^= fed
+    return register
+
+
+def table_3(number):
+    """The 96 bits of a sequence as Table 3 lists them, the first in time first."""
+    given = [number >> n & 1 for n in range(56)]
+    covered = given[:2] + [0] * 6 + given[2:]
+    return [*map(int, "0111011111111010"), *covered, *cells(covered), 0, 0]
+
+
+def as_number(bits):
+    """Bits as one number, the first at weight 1."""
+    return sum(bit << n for n, bit in enumerate(bits))
+
+
+def judged(bits, lost):
+    """What is to be told of a sequence: each test by itself, the first that is so."""
+    if lost:
+        return control.Heard(2)
+    if bits[:16] != table_3(0)[:16]:
+        return control.Heard(3)
+    if cells(bits[16:78]) != bits[78:94]:
+        return control.Heard(4)
+    return control.Heard(1, as_number(bits[16:18] + bits[24:78]))
+
+
+def one_bit_wrong(bits):
+    """One bit not as sent: the pattern, the CRC, or nothing of it is told, by its place."""
+    right = judged(bits, 0)
+    for n in range(96):
+        wrong = [bit ^ (place == n) for place, bit in enumerate(bits)]
+        told = control.heard_in(as_number(wrong), 0)
+        same(told, judged(wrong, 0), f"bit {n} wrong")
+        same(told, control.Heard(3 if n < 16 else 4) if n < 94 else right, f"bit {n} is told")
+
+
+def sequences():
+    """Table 3 there and back, each bit wrong, and the first control bit of each frame wrong."""
+    same(control.pattern_bits(), 0x5FEE, "the pattern, its left digit lowest")
+    same(control.sequence_of(0), 0x5FEE | 0xFA21 << 78, "the sequence of zeros")
+    draw = Draw(14)
+    for n in range(400):
+        number = draw.bits(56)
+        bits = table_3(number)
+        same(control.sequence_of(number), as_number(bits), "a sequence")
+        same(control.sequence_of(number | draw.bits(8) << 56), as_number(bits), "bits above")
+        same(control.heard_in(as_number(bits), 0), control.Heard(1, number), "there and back")
+        same(control.heard_in(as_number(bits), 1), control.Heard(2), "a frame lost")
+        one_bit_wrong(bits)
+        wrong = draw.bits(96)
+        for lost in (0, 1):
+            same(control.heard_in(wrong, lost), judged([wrong >> n & 1 for n in range(96)], lost),
+                 "any bits")
+    check(all(6 * place < 94 for place in range(16)), "a first control bit that is not told of")
+    return "400 sequences, each bit wrong"
+
+
+def control_frames_of(start, choices):
+    """The control frames of a run, by the places at its start: {frame: sequence place}."""
+    found, place, done = {}, start.frame_place, start.sequence_place
+    for n, channel in enumerate(choices):
+        if channel and place == 0:
+            found[n] = done
+            done = (done + 1) % 16
+        place = (place + 1) % 64 if channel else place
+    return found
+
+
+def calls_of_the_channel():
+    """The data bits of a call, and that one sequence at most starts and one ends in it."""
+    for place, done in product(range(64), range(16)):
+        start, most = State(0, 0, 0, place, done), 1 if place == done == 0 else 0
+        found = control_frames_of(start, [1] * 1025)
+        for count in (0, 1, 2, 63, 64, 65, 960, 961, 1023, 1024):
+            inside = [at for n, at in found.items() if n < count]
+            same(frames.control_frames(1, place, count), len(inside), "control frames")
+            same(frames.data_bits(EXAMPLE, count, 1, place), 21 * count - 6 * len(inside), "bits")
+            check(inside.count(0) <= 1 and inside.count(15) <= 1, "sequences of a call")
+        same(list(found.values()).count(0), 1 + most, "starts in 1,025 frames")
+        same(frames.control_frames(0, place, 1024), 0, "control frames where it is off")
+    return "1024 pairs of places"
+
+
+def six_of(line, frame, sign):
+    """The control bits of a frame, by the signs of its octets and the one before them."""
+    signs = [octet >> 7 for octet in line[max(6 * frame - 1, 0):6 * frame + 6]]
+    signs = signs if frame else [sign, *signs]
+    return [one ^ other for one, other in zip(signs, signs[1:])]
+
+
+def sent_on_channel(draw, record, law, start, choices):
+    """(Octets, control bits of each control frame) of a sender's list of calls, and its states."""
+    found, state, line, first, bits = control_frames_of(start, choices), start, b"", 0, {}
+    whole = [start.sequence >> n & 1 for n in range(96)]
+    for channel, count in cases_frames.cut_by_choice(draw, choices):
+        number, before = a_number(draw), state
+        data = draw.octets(frames.data_bytes(record, count, channel, state.frame_place))
+        octets, state = sent(record, law, count, state, data, channel, number)
+        inside = {n: at for n, at in found.items() if first <= n < first + count}
+        for n, at in inside.items():
+            whole = table_3(number) if at == 0 else whole
+            bits[n] = whole[6 * at:6 * at + 6]
+        line, first = line + octets, first + count
+        same(state.sequence, as_number(whole), "the sender's bits")
+        same(state.lost, 0 if 0 in inside.values() else before.lost, "the sender's lost frame")
+        same(state.doubtful, start.doubtful, "the sender's count")
+    for n, six in bits.items():
+        same(six_of(line, n, start.sign), six, "control bits sent")
+    return line, bits
+
+
+def read_on_channel(draw, record, law, begin, line, choices):
+    """({Frame: what is told when it has come}, marks, {frame: control bits}) of a receiver's list.
+
+    Each state and what is told are held against the signs and marks alone.
+    """
+    found, state, first, told, all_marks = control_frames_of(begin, choices), begin, 0, {}, []
+    so_far, lost, got = [begin.sequence >> n & 1 for n in range(96)], begin.lost, {}
+    for channel, count in cases_frames.cut_by_choice(draw, choices):
+        part = line[6 * first:6 * (first + count)]
+        marks, _, state, heard_now = heard(record, law, state, part, channel)
+        wanted = control.NOTHING
+        for n in range(first, first + count):
+            if n not in found:
+                continue
+            at, mark = found[n], marks[n - first]
+            got[n] = [0] * 6 if mark else six_of(line, n, begin.sign)
+            so_far = so_far[:6 * at] + got[n] + [0] * (90 - 6 * at)
+            lost = int(mark > 0 or at > 0 and lost)
+            if at == 15:
+                told[n] = wanted = judged(so_far, lost)
+        same(heard_now, wanted, "what a call tells")
+        same((state.sequence, state.lost), (as_number(so_far), lost), "the receiver's bits")
+        first, all_marks = first + count, all_marks + marks
+        places = control_frames_of(begin, choices[:first])
+        same(state.sequence_place, (begin.sequence_place + len(places)) % 16, "sequence place")
+        same(state.frame_place, (begin.frame_place + sum(choices[:first])) % 64, "frame place")
+    return told, all_marks, got
+
+
+def channel_damage(draw, record, law, line, found):
+    """(The line damaged in some way, frames altered): at control frames, before them, anywhere."""
+    how, damaged = draw.below(5), bytearray(line)
+    if how == 0 or not found:
+        return hurt_frames(draw, record, law, line)
+    n = draw.pick(sorted(found))
+    if how == 1 and n:
+        damaged[6 * n - 1] ^= 0x80
+        return bytes(damaged), range(n - 1, n)
+    if how == 2 and cases_frames.possible_marks(record):
+        mark = draw.pick(cases_frames.possible_marks(record))
+        damaged[6 * n:6 * n + 6] = cases_frames.a_frame(draw, record, law, mark)
+        return bytes(damaged), range(n, n + 1)
+    if how == 3:
+        damaged[6 * n + draw.below(6)] ^= 0x80
+        return bytes(damaged), range(n, n + 1)
+    return line, range(0)
+
+
+def sequence_in(found, end):
+    """The control frames of the run that belong to the sequence which ends with a frame."""
+    return [n for n in sorted(found) if n <= end][-16:] if found[end] == 15 else []
+
+
+def channel_run(draw, record, law, start, choices):
+    """What a run met: kinds of sequences that ended.
+
+    Control bits of unaltered frames are as sent but for the first one after damage, or after a
+    start in another state; a sequence in unaltered frames is heard, and told where that bit is
+    wrong.
+    """
+    found = control_frames_of(start, choices)
+    line, bits = sent_on_channel(draw, record, law, start, choices)
+    line, hurt = channel_damage(draw, record, law, line, found)
+    begin = draw.pick((start, start, elsewhere(draw, start)))
+    told, marks, got = read_on_channel(draw, record, law, begin, line, choices)
+    check(not any(mark and n not in hurt for n, mark in enumerate(marks)), "a good frame is marked")
+    wrong = {}
+    for n in found:
+        differ = [i for i in range(6) if got[n][i] != bits[n][i]]
+        after_damage = n - 1 in hurt or n == 0 and begin != start
+        check(n in hurt or not differ or differ == [0] and after_damage, f"control bits {differ}")
+        wrong[n] = differ
+    met = set()
+    for end, what in told.items():
+        inside = sequence_in(found, end)
+        whole = len(inside) == 16 or begin == start and start.lost == 0
+        if not whole or any(n in hurt for n in inside):
+            met.add("lost" if what.what == 2 else "other")
+            continue
+        sent_bits = [bit for n in inside for bit in bits[n]]
+        if len(inside) < 16:
+            known = [start.sequence >> n & 1 for n in range(96 - len(sent_bits))]
+            sent_bits = known + sent_bits
+        if any(wrong[n] for n in inside):
+            check(what.what in (3, 4) or judged(sent_bits, 0).what != 1, "a wrong bit is not told")
+            met.add(f"told {what.what} by one bit")
+        else:
+            same(what, judged(sent_bits, 0), "a sequence in unaltered frames")
+            met.add("heard whole" if len(inside) == 16 and what.what == 1 else "heard")
+    return met
+
+
+def channel_runs():
+    """Runs with the channel on and off, on a line that damages frames, and whole sequences."""
+    draw, met = Draw(15), set()
+    for n in range(700):
+        record, law = a_record(draw, 1 + n % 28), draw.below(2)
+        places = (draw.pick((0, 63, draw.between(52, 62))),
+                  draw.pick((13, 14, 15, 15, a_sequence_place(draw))))
+        start = cases_frames.at_places(draw, *places)
+        met |= channel_run(draw, record, law, start._replace(lost=draw.below(4) == 0),
+                           cases_frames.some_choices(draw, draw.between(2, 150)))
+    for n in range(24):
+        record, law = a_record(draw, 1 + n), draw.below(2)
+        places = draw.pick((0, 0, 63, draw.below(64))), draw.pick((0, 0, 15))
+        start = cases_frames.at_places(draw, *places)
+        choices = [1] * 1030 if n % 2 else [1] * 500 + [0] * 3 + [1] * 600
+        met |= channel_run(draw, record, law, start, choices)
+    same(met, {"lost", "other", "heard", "heard whole", "told 3 by one bit", "told 4 by one bit"},
+         "ends met")
+    return "724 runs"
+
+
+def like_states():
+    """Bits to come, and 'lost' at sequence place 0, make no two receivers differ."""
+    draw = Draw(16)
+    for n in range(400):
+        record, law, count = a_record(draw, 1 + n % 28), draw.below(2), draw.between(0, 70)
+        state = cases_frames.at_places(draw, draw.pick((0, 63, 10)), a_sequence_place(draw))
+        done = state.sequence_place
+        to_come = draw.bits(96) >> 6 * done << 6 * done
+        other = state._replace(sequence=state.sequence % 2 ** (6 * done) | to_come)
+        other = other if done else other._replace(lost=draw.below(2))
+        sending = other._replace(sequence=other.sequence if done == 0 else state.sequence)
+        data = draw.octets(frames.data_bytes(record, count, 1, state.frame_place))
+        number = a_number(draw)
+        octets, _ = sent(record, law, count, state, data, 1, number)
+        same(sent(record, law, count, sending, data, 1, number)[0], octets, "octets")
+        line = cases_frames.damaged(draw, record, law, octets) if count else octets
+        marks, bits, after, told = heard(record, law, state, line, 1)
+        marks_too, bits_too, after_too, told_too = heard(record, law, other, line, 1)
+        same((marks_too, bits_too, told_too), (marks, bits, told), "marks, bits and what is heard")
+        same(after_too[:5], after[:5], "states but for the sequence")
+        known = 2 ** (6 * after.sequence_place)
+        same(after_too.sequence % known, after.sequence % known, "bits so far")
+        check(after.sequence_place == 0 or after.lost == after_too.lost, "lost")
+    return "400 pairs of states"
+
+
+def passed_through():
+    """Where the channel is off, the fields of the control channel change nothing and stay."""
+    draw = Draw(17)
+    for n in range(300):
+        record, law, count = a_record(draw, 1 + n % 28), draw.below(2), draw.between(0, 8)
+        state = a_state(draw)
+        other = with_places(draw, state)
+        data = draw.octets(frames.data_bytes(record, count))
+        octets, after = sent(record, law, count, state, data, 0, a_number(draw))
+        octets_too, after_too = sent(record, law, count, other, data, 0, a_number(draw))
+        same((octets, after[:3]), (octets_too, after_too[:3]), "octets, history, sign and count")
+        same((after[3:], after_too[3:]), (state[3:], other[3:]), "the sender's fields")
+        if count:
+            octets = cases_frames.damaged(draw, record, law, octets)
+        *told, after = received(record, law, state, octets)
+        *told_too, after_too = received(record, law, other, octets)
+        same((told, after[:3]), (told_too, after_too[:3]), "marks, bits, history, sign and count")
+        same((after[3:], after_too[3:]), (state[3:], other[3:]), "the receiver's fields")
+    return "300 pairs of states"
+
+
+def stored_channel():
+    """Places, choices, lost frames and ends of sequences that the stored cases must have."""
+    places, declined, ends, steps_met, lengths = set(), set(), set(), set(), set()
+    for case, answer in stored_cases():
+        kind, args = forms.arguments(case)
+        if kind not in (forms.SEND, forms.RECEIVE):
+            continue
+        record, law, count, state, channel = args[:5]
+        if answer[0] == 19:
+            declined.add((kind, min(count, 1), channel, state.frame_place > 63,
+                          state.sequence_place > 15))
+        if answer[0] or not channel:
+            continue
+        found = control_frames_of(state, [1] * count)
+        places |= {(kind, "frame", state.frame_place)} if count else set()
+        places |= {(kind, "sequence", state.sequence_place)} if count and found else set()
+        lengths.add((kind, count, len(found)))
+        if kind == forms.RECEIVE:
+            _, after, told, _, marks = forms.outcome(case)
+            ends.add((told.what, count == 1))
+            if count == 1 and found:
+                steps_met.add((state.sequence_place, state.lost, marks[0] > 0))
+    both = (forms.SEND, forms.RECEIVE)
+    check({(kind, "frame", n) for kind in both for n in range(64)} <= places, "frame places")
+    check({(kind, "sequence", n) for kind in both for n in range(16)} <= places, "sequence places")
+    over = ((True, True), (True, False), (False, True))
+    same(declined, {(*three, *two) for three in product(both, (0, 1), (0, 1)) for two in over},
+         "19 with frames and without, off and on, by either place")
+    check({(what, True) for what in range(5)} | {(1, False), (2, False)} <= ends, "ends")
+    check(set(product(range(16), (0, 1), (True, False))) <= steps_met, "lost frames")
+    check({(kind, 1024, 16) for kind in both} <= lengths, "calls of 1,024 frames")
+    return f"{len(places)} places, {len(declined)} kinds of 19, {len(steps_met)} of lost frames"
 
 
 # The default DIL (A.12)
@@ -878,7 +1256,11 @@ RIGHT = {name: getattr(frames, name)
          for name in ("points", "labels", "interval_masks", "get_bits", "add_bits", "scramble",
                       "send_frame", "receive_frame", "after_mark", "doubt_after_good",
                       "call_faults", "send_faults", "receive_faults", "outside", "send",
-                      "receive")}
+                      "receive", "data_bits", "after_control", "after_frame", "with_six",
+                      "unpack_state")}
+RIGHT_CONTROL = {name: getattr(control, name)
+                 for name in ("bits_so_far", "crc_of", "faults", "heard_in", "number_in",
+                              "sequence_of")}
 RIGHT_CP = {name: getattr(cp, name)
             for name in ("covered", "crc", "record_in", "record_faults", "reader_faults",
                          "writer_faults")}
@@ -886,29 +1268,29 @@ RIGHT_EMPTY = records.empty_intervals
 RIGHT_DIL = {name: getattr(dil, name) for name in ("octets_of", "send_dil", "symbols_of")}
 
 
-def history_zeroed(record, state, octets):
+def history_zeroed(state, width, octets):
     """After a mark: no history."""
-    return RIGHT["after_mark"](record, state, octets)._replace(history=0)
+    return RIGHT["after_mark"](state, width, octets)._replace(history=0)
 
 
-def history_kept(record, state, octets):
+def history_kept(state, width, octets):
     """After a mark: the old history."""
-    return RIGHT["after_mark"](record, state, octets)._replace(history=state.history)
+    return RIGHT["after_mark"](state, width, octets)._replace(history=state.history)
 
 
-def sign_kept(record, state, octets):
+def sign_kept(state, width, octets):
     """After a mark: the old sign."""
-    return RIGHT["after_mark"](record, state, octets)._replace(sign=state.sign)
+    return RIGHT["after_mark"](state, width, octets)._replace(sign=state.sign)
 
 
-def sender_sign_reset(record, law, state, data):
+def sender_sign_reset(record, law, state, *rest):
     """Every frame is sent as if the last sign were 0."""
-    return RIGHT["send_frame"](record, law, state._replace(sign=0), data)
+    return RIGHT["send_frame"](record, law, state._replace(sign=0), *rest)
 
 
-def receiver_sign_reset(record, law, state, octets):
+def receiver_sign_reset(record, law, state, *rest):
     """Every frame is read as if the last sign were 0."""
-    return RIGHT["receive_frame"](record, law, state._replace(sign=0), octets)
+    return RIGHT["receive_frame"](record, law, state._replace(sign=0), *rest)
 
 
 def points_from_smallest(mask):
@@ -1027,13 +1409,21 @@ def cut_at_words(octets, first, count, bits):
     RIGHT["add_bits"](octets, first, count, bits % 2 ** (64 - first % 64))
 
 
-def last_word_kept(record, law, count, state, octets, bits, marks):
+def bits_made(change):
+    """A receiver that makes other bits of those afterwards, those lent and the number of them."""
+    def receive(record, law, count, state, channel, octets, bits, marks):
+        refusal, after, told, data, judged = RIGHT["receive"](record, law, count, state, channel,
+                                                              octets, bits, marks)
+        if not refusal:
+            used = frames.data_bits(record, count, channel, state.frame_place)
+            data = change(data, bits, used)
+        return refusal, after, told, data, judged
+    return receive
+
+
+def last_word_kept(data, bits, used):
     """Bits that fill no word of eight bytes are not put."""
-    refusal, state, heard, judged = RIGHT["receive"](record, law, count, state, octets, bits, marks)
-    if not refusal:
-        full = count * frames.frame_bits(record) // 64 * 8
-        heard = heard[:full] + bits[full:]
-    return refusal, state, heard, judged
+    return data[:used // 64 * 8] + bits[used // 64 * 8:]
 
 
 def unscrambled_past_36(history, data, count):
@@ -1049,66 +1439,68 @@ def own_output(history, line, count):
     return frames.scramble(history, line, count)
 
 
-def zeros_descrambled(record, law, state, octets):
+def zeros_descrambled(record, law, state, channel, octets):
     """A marked frame gives the descrambling of zeros."""
-    mark, data, after = RIGHT["receive_frame"](record, law, state, octets)
+    mark, data, after = RIGHT["receive_frame"](record, law, state, channel, octets)
     if mark:
-        data = frames.descramble(state.history, 0, frames.frame_bits(record))[0]
+        width = frames.width_of(record, channel, state)
+        data = frames.descramble(state.history, 0, width)[0]
     return mark, data, after
 
 
-def sign_of_members_only(record, law, state, octets):
+def sign_of_members_only(record, law, state, channel, octets):
     """The sixth octet sets the sign only if its Ucode is in the mask."""
-    mark, data, after = RIGHT["receive_frame"](record, law, state, octets)
+    mark, data, after = RIGHT["receive_frame"](record, law, state, channel, octets)
     ucodes = [ucode_of(law, octet) for octet in octets]
     if 5 in frames.outside(frames.interval_masks(record), ucodes):
         after = after._replace(sign=state.sign)
     return mark, data, after
 
 
-def last_byte_kept(record, law, count, state, octets, bits, marks):
+def last_byte_kept(data, bits, used):
     """The bits beyond the last frame are left in the last byte."""
-    refusal, state, heard, judged = RIGHT["receive"](record, law, count, state, octets, bits, marks)
-    used = count * frames.frame_bits(record)
-    if not refusal and used % 8:
-        n = used // 8
+    n = used // 8
+    if used % 8:
         keep = bits[n] >> used % 8 << used % 8
-        heard = heard[:n] + bytes([heard[n] | keep]) + heard[n + 1:]
-    return refusal, state, heard, judged
+        data = data[:n] + bytes([data[n] | keep]) + data[n + 1:]
+    return data
 
 
-def every_frame_marked(record, law, count, state, octets, bits, marks):
+def every_frame_marked(record, law, count, *rest):
     """Every frame gets mark 7."""
-    refusal, state, heard, judged = RIGHT["receive"](record, law, count, state, octets, bits, marks)
-    return refusal, state, heard, judged if refusal else b"\x07" * count + judged[count:]
+    refusal, *left, judged = RIGHT["receive"](record, law, count, *rest)
+    return refusal, *left, judged if refusal else b"\x07" * count + judged[count:]
 
 
-def nothing_written(record, law, count, state, octets, bits, marks):
+def nothing_written(record, law, count, state, channel, octets, bits, marks):
     """The state goes on and the buffers stay."""
-    refusal, state, _, _ = RIGHT["receive"](record, law, count, state, octets, bits, marks)
-    return refusal, state, bytes(bits), bytes(marks)
+    refusal, state, told, _, _ = RIGHT["receive"](record, law, count, state, channel, octets, bits,
+                                                  marks)
+    return refusal, state, told, bytes(bits), bytes(marks)
 
 
-def first_frame_alone(record, law, count, state, octets, bits, marks):
+def first_frame_alone(record, law, count, state, channel, octets, bits, marks):
     """The first frame is received; the others give zeros and mark 0."""
-    refusal, state, heard, judged = RIGHT["receive"](record, law, count, state, octets, bits, marks)
+    refusal, after, told, data, judged = RIGHT["receive"](record, law, count, state, channel,
+                                                          octets, bits, marks)
     if refusal or not count:
-        return refusal, state, heard, judged
-    touched = frames.data_bytes(record, count)
-    first = int.from_bytes(heard[:touched], "little") % 2 ** frames.frame_bits(record)
-    heard = first.to_bytes(touched, "little") + heard[touched:]
-    return refusal, state, heard, judged[:1] + bytes(count - 1) + judged[count:]
+        return refusal, after, told, data, judged
+    touched = frames.data_bytes(record, count, channel, state.frame_place)
+    width = frames.width_of(record, channel, state)
+    first = int.from_bytes(data[:touched], "little") % 2 ** width
+    data = first.to_bytes(touched, "little") + data[touched:]
+    return refusal, after, told, data, judged[:1] + bytes(count - 1) + judged[count:]
 
 
-def made_up_mark(record, law, state, octets):
+def made_up_mark(*args):
     """Mark 8 in place of 7."""
-    mark, *rest = RIGHT["receive_frame"](record, law, state, octets)
+    mark, *rest = RIGHT["receive_frame"](*args)
     return 8 if mark == 7 else mark, *rest
 
 
-def bytes_rounded_down(record, count):
+def bytes_rounded_down(*args):
     """The whole bytes among the data bits."""
-    return count * frames.frame_bits(record) // 8
+    return frames.data_bits(*args) // 8
 
 
 def without(faults, number):
@@ -1183,12 +1575,11 @@ def empty_with_frames(record, count, *rest):
 def doubt_by(after_good=None, after_mark=None):
     """The changes that give the count of doubtful bits another rule.
 
-    `after_good` is made from D and the count, `after_mark` from the count alone.
+    `after_good` is made from a frame's data bits and the count, `after_mark` from the count alone.
     """
     changes = {}
     if after_good:
-        changes["frames.doubt_after_good"] = lambda record, doubtful: after_good(
-            frames.frame_bits(record), doubtful)
+        changes["frames.doubt_after_good"] = after_good
     if after_mark:
         changes["frames.doubt_after_mark"] = after_mark
     return changes
@@ -1196,8 +1587,8 @@ def doubt_by(after_good=None, after_mark=None):
 
 def sender_counting(change):
     """The changes that let the sender make another count from D and the count."""
-    def send_frame(record, law, state, data):
-        octets, after = RIGHT["send_frame"](record, law, state, data)
+    def send_frame(record, law, state, *rest):
+        octets, after = RIGHT["send_frame"](record, law, state, *rest)
         doubtful = change(frames.frame_bits(record), state.doubtful)
         return octets, after._replace(doubtful=doubtful)
     return {"frames.send_frame": send_frame}
@@ -1205,8 +1596,8 @@ def sender_counting(change):
 
 def doubt_set_by(marks):
     """The changes that let only these marks set the count; after others it is as it was."""
-    def receive_frame(record, law, state, octets):
-        mark, data, after = RIGHT["receive_frame"](record, law, state, octets)
+    def receive_frame(record, law, state, *rest):
+        mark, data, after = RIGHT["receive_frame"](record, law, state, *rest)
         if mark and mark not in marks:
             after = after._replace(doubtful=state.doubtful)
         return mark, data, after
@@ -1215,14 +1606,13 @@ def doubt_set_by(marks):
 
 def counting_calls(change):
     """The changes that make another count from D, marks and counts before and after a call."""
-    def receive(record, law, count, state, octets, bits, marks):
-        refusal, after, heard, judged = RIGHT["receive"](record, law, count, state, octets, bits,
-                                                         marks)
+    def receive(record, law, count, state, *rest):
+        refusal, after, *left, judged = RIGHT["receive"](record, law, count, state, *rest)
         if not refusal:
             doubtful = change(frames.frame_bits(record), judged[:count], state.doubtful,
                               after.doubtful)
             after = after._replace(doubtful=doubtful)
-        return refusal, after, heard, judged
+        return refusal, after, *left, judged
     return {"frames.receive": receive}
 
 
@@ -1259,18 +1649,18 @@ def count_zeroed_by_refusal(entry):
     return {f"frames.{entry}": call}
 
 
-def marks_room_ignored(record, law, count, state, octets, bits, marks):
+def marks_room_ignored(*args):
     """17 looks at the bits alone; what does not fit into the marks is lost."""
-    longer = marks + bytes(1024)
-    *rest, judged = RIGHT["receive"](record, law, count, state, octets, bits, longer)
+    *others, marks = args
+    *rest, judged = RIGHT["receive"](*others, marks + bytes(1024))
     return *rest, judged[:len(marks)]
 
 
-def bits_room_ignored(record, law, count, state, octets, bits, marks):
+def bits_room_ignored(*args):
     """17 looks at the marks alone; what does not fit into the bits is lost."""
-    longer = bits + bytes(6144)
-    *rest, heard, judged = RIGHT["receive"](record, law, count, state, octets, longer, marks)
-    return *rest, heard[:len(bits)], judged
+    *others, bits, marks = args
+    *rest, data, judged = RIGHT["receive"](*others, bits + bytes(6144), marks)
+    return *rest, data[:len(bits)], judged
 
 
 def count_wraps(octets, bit_count):
@@ -1392,10 +1782,10 @@ def dil_in_no_buffer(law, octets):
     return RIGHT_DIL["send_dil"](law, octets) if octets else (None, b"")
 
 
-def count_at_once(record, state, octets):
+def count_at_once(state, width, octets):
     """A marked frame sets the count and lowers it too."""
-    after = RIGHT["after_mark"](record, state, octets)
-    return after._replace(doubtful=RIGHT["doubt_after_good"](record, after.doubtful))
+    after = RIGHT["after_mark"](state, width, octets)
+    return after._replace(doubtful=RIGHT["doubt_after_good"](width, after.doubtful))
 
 
 def counts_told(number):
@@ -1434,13 +1824,13 @@ WRONG_CODECS = {
     "reciprocals of 19 bits":
         {"frames.ucodes_for": by_reciprocals(lambda size: -(-2**19 // size) * 2**9)},
     "bits across words lost": {"frames.add_bits": cut_at_words},
-    "bits of the last word lost": {"frames.receive": last_word_kept},
+    "bits of the last word lost": {"frames.receive": bits_made(last_word_kept)},
     "bits past 36 not scrambled": {"frames.scramble": unscrambled_past_36},
     "words of 53 bits read": {"frames.get_bits": read_below_53},
     "words of 53 bits written": {"frames.add_bits": written_below_53},
     "descrambler fed its output": {"frames.descramble": own_output},
     "R tested after a cut": {"frames.too_large": lambda record, number: False},
-    "last byte not cleared": {"frames.receive": last_byte_kept},
+    "last byte not cleared": {"frames.receive": bits_made(last_byte_kept)},
     "bytes rounded down": {"frames.data_bytes": bytes_rounded_down},
     "12 forgotten by the frames":
         {"frames.record_faults": without(RIGHT_CP["record_faults"], 12)},
@@ -1459,8 +1849,8 @@ WRONG_CODECS = {
     "acknowledge at bit 25": {"cp.ACKNOWLEDGE_AT": 25},
     "unnamed masks lost": {"cp.record_in": unnamed_masks_lost},
     "every frame marked": {"frames.receive": every_frame_marked},
-    "the same octets always": {"frames.send_frame": lambda record, law, state, data:
-                               (b"\x7a" * 6, RIGHT["send_frame"](record, law, state, data)[1])},
+    "the same octets always": {"frames.send_frame": lambda *args:
+                               (b"\x7a" * 6, RIGHT["send_frame"](*args)[1])},
     "nothing written": {"frames.receive": nothing_written},
     "first frame alone": {"frames.receive": first_frame_alone},
     "made-up mark": {"frames.receive_frame": made_up_mark},
@@ -1468,10 +1858,10 @@ WRONG_CODECS = {
     "7 before looking": {"cp.read_cp": lambda octets, bit_count: (Refusal(7), EMPTY)},
     "writer always declines": {"cp.write_cp": lambda record, buffer:
                                (Refusal(17), 0, bytes(buffer))},
-    "sender always declines": {"frames.send": lambda record, law, count, state, data, octets:
-                               (Refusal(14), state, bytes(octets))},
-    "receiver always declines": {"frames.receive": lambda record, law, count, state, *buffers:
-                                 (Refusal(14), state, *map(bytes, buffers[1:]))},
+    "sender always declines": {"frames.send": lambda record, law, count, state, *rest:
+                               (Refusal(14), state, rest[3])},
+    "receiver always declines": {"frames.receive": lambda record, law, count, state, *rest:
+                                 (Refusal(14), state, control.NOTHING, *rest[2:])},
     "25 forgotten by the reader": {"cp.reader_faults": without(RIGHT_CP["reader_faults"], 25)},
     "25 forgotten by the writer": {"cp.writer_faults": without(RIGHT_CP["writer_faults"], 25)},
     "25 forgotten by the sender": {"frames.send_faults": without(RIGHT["send_faults"], 25)},
@@ -1590,6 +1980,433 @@ WRONG_CODECS = {
 }
 
 
+# Wrong codecs of the control channel
+
+def of_control(name, change):
+    """The changes that make another answer of control frames, from the right one and what is given.
+
+    `name` is that of the function for a frame.
+    """
+    def frame(record, law, state, channel, *rest):
+        found = RIGHT[name](record, law, state, channel, *rest)
+        if frames.is_control(channel, state):
+            return change(found, record, law, state, *rest)
+        return found
+    return {f"frames.{name}": frame}
+
+
+def octets_of(record, law, signs, number):
+    """Six octets with these signs for R."""
+    ucodes = frames.ucodes_for(frames.interval_masks(record), number)
+    return bytes(octet_of(law, sign, ucode) for sign, ucode in zip(signs, ucodes))
+
+
+def six_scrambled(found, record, law, state, number, data):
+    """The control bits are scrambled, before the data bits."""
+    six = control.bits_at(found[1].sequence, state.sequence_place)
+    line, history = frames.scramble(state.history, six | data << 6, frames.frame_bits(record))
+    signs = frames.signs_for(state.sign, line)
+    after = found[1]._replace(history=history, sign=signs[5])
+    return octets_of(record, law, signs, line >> 6), after
+
+
+def six_of_signs(turned):
+    """The changes that make the signs of a control frame from its six control bits alone."""
+    def change(found, record, law, state, number, data):
+        octets, after = found
+        six = control.bits_at(after.sequence, state.sequence_place)
+        signs = turned(state.sign, [six >> i & 1 for i in range(6)])
+        made = bytes(octet & 0x7F | sign << 7 for octet, sign in zip(octets, signs))
+        return made, after._replace(sign=signs[5])
+    return of_control("send_frame", change)
+
+
+def pushed(history, six):
+    """The history after six more bits."""
+    for i in range(6):
+        history = frames.push(history, six >> i & 1)
+    return history
+
+
+def six_pushed(found, record, law, state, *rest):
+    """The control bits go into the history, after the data bits of a good frame."""
+    after, mark = found[-1], found[0] if len(found) == 3 else 0
+    six = control.bits_at(after.sequence, state.sequence_place)
+    return *found[:-1], after if mark else after._replace(history=pushed(after.history, six))
+
+
+def left_by(change):
+    """The changes that let a control frame received leave other fields, by its mark and states."""
+    def frame(found, record, law, state, octets):
+        mark, data, after = found
+        return mark, data, after._replace(**change(record, state, octets, mark, after))
+    return of_control("receive_frame", frame)
+
+
+def if_marked(mark, **fields):
+    """Fields that a marked frame alone leaves."""
+    return fields if mark else {}
+
+
+def signs_of_marked(record, state, octets, mark, after):
+    """The control bits of a marked frame are kept as received."""
+    six = frames.sign_bits(state.sign, [octet >> 7 for octet in octets])
+    bits = control.bits_so_far(after.sequence, state.sequence_place, six)
+    return if_marked(mark, sequence=bits)
+
+
+def bytes_touched(record, count, channel, state):
+    """The bytes that the data bits of a call need."""
+    return frames.data_bytes(record, count, channel, state.frame_place)
+
+
+def laid_out(step):
+    """A receiver whose data bits lie at other places; `step` makes how far the next frame's begin.
+
+    It is given the frame's data bits, D and the mark.
+    """
+    def receive(record, law, count, state, channel, octets, bits, marks):
+        refusal, after, told, data, judged = RIGHT["receive"](record, law, count, state, channel,
+                                                              octets, bits, marks)
+        if refusal:
+            return refusal, after, told, data, judged
+        touched, made, first, at = bytes_touched(record, count, channel, state), 0, 0, 0
+        for n, width in enumerate(widths_of(record, state.frame_place, [channel] * count)):
+            made |= frames.get_bits(data, first, width) << at
+            first, at = first + width, at + step(width, frames.frame_bits(record), judged[n])
+        made %= 2 ** (8 * touched)
+        return refusal, after, told, made.to_bytes(touched, "little") + data[touched:], judged
+    return {"frames.receive": receive}
+
+
+def read_at_d(record, law, count, state, channel, number, data, octets):
+    """The sender's data bits begin at n x D in every frame n."""
+    made, at = 0, 0
+    if count <= 1024:
+        for n, width in enumerate(widths_of(record, state.frame_place, [channel] * count)):
+            made |= frames.get_bits(data, n * frames.frame_bits(record), width) << at
+            at += width
+    spread = (made % 2 ** (8 * len(data))).to_bytes(len(data), "little")
+    return RIGHT["send"](record, law, count, state, channel, number, spread, octets)
+
+
+def places_declined(sender=None, receiver=None):
+    """The changes that let the entries have 19 by other rules, made from frames, state and channel.
+
+    Where a rule is not given, the entry has the right one.
+    """
+    def having(faults, rule):
+        def found(record, law, count, state, channel, *rest):
+            held = list(faults(record, law, count, state, channel, *rest))
+            if rule:
+                held = [fault for fault in held if fault.number != 19]
+                held += [Refusal(19)] * bool(rule(count, state, channel))
+            return iter(sorted(held, key=lambda fault: ORDER.index(fault.number)))
+        return found
+    return {"frames.send_faults": having(RIGHT["send_faults"], sender),
+            "frames.receive_faults": having(RIGHT["receive_faults"], receiver)}
+
+
+def places_over(frame=64, sequence=16):
+    """The changes that let both entries have 19 from other places on."""
+    return places_declined(*[lambda count, state, channel:
+                             state.frame_place >= frame or state.sequence_place >= sequence] * 2)
+
+
+def places_where(condition):
+    """The changes that let both entries look at 19 under a condition alone."""
+    return places_declined(*[lambda count, state, channel: condition(count, channel)
+                             and (state.frame_place > 63 or state.sequence_place > 15)] * 2)
+
+
+def frames_told_as(number, other):
+    """The changes that give a refusal of the frames another number."""
+    return {"frames.call_faults": lambda *args: (Refusal(other) if fault.number == number else fault
+                                                 for fault in RIGHT["call_faults"](*args))}
+
+
+def call_left(entry, change):
+    """The changes that let an accepted call of an entry leave other fields.
+
+    They are made from frames, channel, the states before and after, and the rest of the answer.
+    """
+    def call(record, law, count, state, channel, *given):
+        refusal, after, *rest = RIGHT[entry](record, law, count, state, channel, *given)
+        if not refusal:
+            after = after._replace(**change(count, channel, state, after, rest))
+        return refusal, after, *rest
+    return {f"frames.{entry}": call}
+
+
+def both_left(change):
+    """The changes that let accepted calls of both entries leave other fields."""
+    return call_left("send", change) | call_left("receive", change)
+
+
+def heard_by(change):
+    """The changes that let the receiver tell otherwise, by the states before and after a call."""
+    def receive(record, law, count, state, *given):
+        refusal, after, told, *rest = RIGHT["receive"](record, law, count, state, *given)
+        return refusal, after, told if refusal else change(state, after, told), *rest
+    return {"frames.receive": receive}
+
+
+def faults_by(change):
+    """The changes that find other faults of a sequence, from those that there are."""
+    return {"control.faults": lambda bits, lost:
+            iter(change(list(RIGHT_CONTROL["faults"](bits, lost)), bits))}
+
+
+def crc_by(change):
+    """The changes that make another CRC of a sequence from the right one."""
+    return {"control.crc_of": lambda bits: change(RIGHT_CONTROL["crc_of"](bits))}
+
+
+def crc_over(*places):
+    """The changes that let the CRC cover the bits at other places."""
+    return {"control.covered": lambda bits: [bits >> n & 1 for n in places]}
+
+
+def crc_from_zero(bits):
+    """The register begins with zeros."""
+    register = 0
+    for bit in control.covered(bits):
+        register = cp.crc_step(register, bit)
+    return register
+
+
+def number_by(change):
+    """The changes that put the number handed in otherwise into the sequence, and take it so."""
+    return {"control.sequence_of": lambda number: RIGHT_CONTROL["sequence_of"](change(number)),
+            "control.number_in": lambda bits: change(RIGHT_CONTROL["number_in"](bits))}
+
+
+def mirrored_in(width, number):
+    """The lowest bits of a number in the reverse order."""
+    return int(f"{number % 2**width:0{width}b}"[::-1], 2)
+
+
+def lowest_bits_of_flags(form):
+    """Only the lowest bit of a flag's byte is looked at."""
+    history, sign, *counts, bits, lost = frames.BYTE_FORM.unpack(form)
+    return State(history, sign & 1, *counts, int.from_bytes(bits, "little"), lost & 1)
+
+
+ZERO_FIELDS = dict(frame_place=0, sequence_place=0, sequence=0, lost=0)
+
+
+def fields_zeroed_by_refusal(entry):
+    """The changes that let an entry that declines return zeros in the fields of the channel."""
+    def call(*args):
+        refusal, after, *rest = RIGHT[entry](*args)
+        return refusal, after._replace(**ZERO_FIELDS) if refusal else after, *rest
+    return {f"frames.{entry}": call}
+
+
+def ended(told):
+    """Whether something is heard."""
+    return told != control.NOTHING
+
+
+WRONG_CHANNELS = {
+    "control bits scrambled": of_control("send_frame", six_scrambled),
+    "control bits in the sender's history": of_control("send_frame", six_pushed),
+    "control bits in the receiver's history": of_control("receive_frame", six_pushed),
+    "control bits not differentially coded": six_of_signs(lambda sign, six: six),
+    "control bits coded from the sign 0":
+        six_of_signs(lambda sign, six: frames.signs_for(0, as_number(six))),
+    "control bits in the reverse order":
+        six_of_signs(lambda sign, six: frames.signs_for(sign, as_number(six[::-1]))),
+    "control bits read in the reverse order": {"frames.with_six": lambda state, mark, six:
+                                               RIGHT["with_six"](state, mark, mirrored_in(6, six))},
+    "control bits of a marked frame kept": left_by(signs_of_marked),
+    "control bits of a marked frame not put": left_by(
+        lambda record, state, octets, mark, after: if_marked(mark, sequence=state.sequence)),
+    "sequence bits to come kept": {"control.bits_so_far": lambda bits, place, six:
+                                   bits & ~(63 << 6 * place) | six << 6 * place},
+    "sequence bits so far lost": {"control.bits_so_far": lambda bits, place, six:
+                                  six << 6 * place},
+    "sequence bits put one place late": {"control.bits_so_far": lambda bits, place, six:
+                                         bits & (1 << 6 * place) - 1
+                                         | six << 6 * (place + 1) % 96},
+    "sequence bits zeroed at the end": call_left(
+        "receive", lambda count, channel, state, after, rest:
+        dict(sequence=0) if ended(rest[0]) else {}),
+    "sequence bits of the sender those sent alone":
+        of_control("send_frame", lambda found, record, law, state, *rest:
+                   (found[0], found[1]._replace(sequence=found[1].sequence
+                                                % 2 ** (6 * state.sequence_place + 6)))),
+    "sequence made anew in each control frame": {
+        "frames.at_start": lambda state, number:
+        state._replace(sequence=control.sequence_of(number), lost=0)},
+    "sequence never made": {"frames.at_start": lambda state, number: state},
+    "sequence made but lost kept": {"frames.at_start": lambda state, number:
+                                    state if state.sequence_place else
+                                    state._replace(sequence=control.sequence_of(number))},
+    "sequence made with lost": {"frames.at_start": lambda state, number:
+                                state if state.sequence_place else
+                                state._replace(sequence=control.sequence_of(number), lost=1)},
+    "sequence taken in every call at sequence place 0":
+        {"frames.send": lambda record, law, count, state, channel, number, *rest: RIGHT["send"](
+            record, law, count, state._replace(sequence=control.sequence_of(number))
+            if channel and not state.sequence_place else state, channel, number, *rest)},
+    "lost forgotten": {"frames.lost_after": lambda state, mark: 0},
+    "lost by the last frame alone": {"frames.lost_after": lambda state, mark: int(mark > 0)},
+    "lost not cleared at a start": {"frames.lost_after": lambda state, mark:
+                                    int(state.lost or mark > 0)},
+    "lost by the first frame alone": {"frames.lost_after": lambda state, mark:
+                                      state.lost if state.sequence_place else int(mark > 0)},
+    "lost not by mark 7": {"frames.lost_after": lambda state, mark:
+                           int((state.lost if state.sequence_place else 0) or 0 < mark < 7)},
+    "lost cleared at the end": call_left("receive", lambda count, channel, state, after, rest:
+                                         dict(lost=0) if ended(rest[0]) else {}),
+    "lost in the lowest bit": {"frames.unpack_state": lowest_bits_of_flags},
+    "count lowered by D in a control frame": left_by(
+        lambda record, state, octets, mark, after:
+        {} if mark else dict(doubtful=max(state.doubtful - frames.frame_bits(record), 0))),
+    "count left by a control frame": left_by(
+        lambda record, state, octets, mark, after: {} if mark else dict(doubtful=state.doubtful)),
+    "count not set by a marked control frame": left_by(
+        lambda record, state, octets, mark, after: if_marked(mark, doubtful=state.doubtful)),
+    "D zeros pushed by a marked control frame": left_by(
+        lambda record, state, octets, mark, after: if_marked(
+            mark, history=(state.history << frames.frame_bits(record)) % frames.HISTORIES)),
+    "history kept by a marked control frame": left_by(
+        lambda record, state, octets, mark, after: if_marked(mark, history=state.history)),
+    "sign kept by a marked control frame": left_by(
+        lambda record, state, octets, mark, after: if_marked(mark, sign=state.sign)),
+    "sequence place kept by a marked frame": left_by(
+        lambda record, state, octets, mark, after:
+        if_marked(mark, sequence_place=state.sequence_place)),
+    "frame place kept by a marked frame": left_by(
+        lambda record, state, octets, mark, after: if_marked(mark, frame_place=0)),
+    "D zero bits given by a marked control frame":
+        laid_out(lambda width, full, mark: full if mark else width),
+    "receiver's bits at n x D": laid_out(lambda width, full, mark: full),
+    "sender's bits at n x D": {"frames.send": read_at_d},
+    "control frames where it is off": {"frames.is_control": lambda channel, state:
+                                       state.frame_place == 0},
+    "every frame a control frame": {"frames.is_control": lambda channel, state: bool(channel)},
+    "control frames at place 63": {"frames.is_control": lambda channel, state:
+                                   bool(channel) and state.frame_place == 63},
+    "a control frame as the first of each call alone":
+        both_left(lambda count, channel, state, after, rest:
+                  dict(frame_place=0) if channel and count else {}),
+    "every 63rd frame": {"frames.after_frame": lambda channel, state: state._replace(
+        frame_place=(state.frame_place + 1) % 63) if channel else state},
+    "every 65th frame": {"frames.after_frame": lambda channel, state: state._replace(
+        frame_place=(state.frame_place + 1) % 65) if channel else state},
+    "frame place in a byte": {"frames.after_frame": lambda channel, state: state._replace(
+        frame_place=(state.frame_place + 1) % 256) if channel else state},
+    "frame place not moved": {"frames.after_frame": lambda channel, state: state},
+    "frame place moved where it is off": {"frames.after_frame": lambda channel, state:
+                                          RIGHT["after_frame"](1, state)},
+    "frame place moved by no frames": both_left(
+        lambda count, channel, state, after, rest:
+        {} if count else dict(frame_place=(state.frame_place + 1) % 64)),
+    "frame place moved once a call": both_left(
+        lambda count, channel, state, after, rest:
+        dict(frame_place=(state.frame_place + 1) % 64) if channel and count else {}),
+    "sequence place not moved": {"frames.after_control": lambda state: state},
+    "sequences of 15 frames": {"frames.after_control": lambda state: state._replace(
+        sequence_place=(state.sequence_place + 1) % 15)},
+    "sequences of 17 frames": {
+        "frames.after_control": lambda state: state._replace(
+            sequence_place=(state.sequence_place + 1) % 17),
+        "control.bits_so_far": lambda *args: RIGHT_CONTROL["bits_so_far"](*args) % 2**96},
+    "fields zeroed where it is off": both_left(
+        lambda count, channel, state, after, rest: {} if channel else ZERO_FIELDS),
+    "fields zeroed by the refused sender": fields_zeroed_by_refusal("send"),
+    "fields zeroed by the refused receiver": fields_zeroed_by_refusal("receive"),
+    "16 by N x D": {"frames.send_faults": lambda record, law, count, state, channel, *rest:
+                    RIGHT["send_faults"](record, law, count, state, 0, *rest)},
+    "17 by N x D": {"frames.receive_faults": lambda record, law, count, state, channel, *rest:
+                    RIGHT["receive_faults"](record, law, count, state, 0, *rest)},
+    "one control frame a call counted": {"frames.control_frames": lambda channel, place, count:
+                                         int(bool(channel) and (-place) % 64 < count)},
+    "control frames counted from the call's start":
+        {"frames.control_frames": lambda channel, place, count: -(-count // 64) if channel else 0},
+    "19 forgotten": places_declined(*[lambda count, state, channel: False] * 2),
+    "19 forgotten by the sender": places_declined(sender=lambda count, state, channel: False),
+    "19 forgotten by the receiver": places_declined(receiver=lambda count, state, channel: False),
+    "19 for the frame place alone": places_over(sequence=256),
+    "19 for the sequence place alone": places_over(frame=256),
+    "19 for both places together": places_declined(
+        *[lambda count, state, channel: state.frame_place > 63 and state.sequence_place > 15] * 2),
+    "19 where it is on alone": places_where(lambda count, channel: channel),
+    "19 where it is off alone": places_where(lambda count, channel: not channel),
+    "19 with frames alone": places_where(lambda count, channel: count),
+    "19 from frame place 63 on": places_over(frame=63),
+    "19 from frame place 65 on": places_over(frame=65),
+    "19 from sequence place 15 on": places_over(sequence=15),
+    "19 from sequence place 17 on": places_over(sequence=17),
+    "19 of bytes with signs": places_declined(
+        *[lambda count, state, channel: 63 < state.frame_place < 128
+          or 15 < state.sequence_place < 128] * 2),
+    "19 told as 18": frames_told_as(19, 18),
+    "19 told as 14": frames_told_as(19, 14),
+    "19 before 4": {"frames.call_faults": moved_before(4, RIGHT["call_faults"], 19)},
+    "19 before 13": {"frames.call_faults": moved_before(13, RIGHT["call_faults"], 19)},
+    "19 before 14": {"frames.call_faults": moved_before(14, RIGHT["call_faults"], 19)},
+    "19 before 18": {"frames.call_faults": moved_before(18, RIGHT["call_faults"], 19)},
+    "19 after 15": {"frames.call_faults": moved_before(16, RIGHT["call_faults"], 19)},
+    "19 after 16": {"frames.call_faults": moved_before(17, RIGHT["call_faults"], 19)},
+    "19 after 17": {"frames.call_faults": lambda *args: iter(sorted(
+        RIGHT["call_faults"](*args), key=lambda fault: fault.number == 19))},
+    "pattern from the right": {"control.PATTERN": control.PATTERN[::-1]},
+    "pattern inverted": {"control.pattern_bits": lambda: 0x5FEE ^ 0xFFFF},
+    "pattern not judged": faults_by(lambda found, bits: [f for f in found if f != 3]),
+    "pattern judged by its first byte": faults_by(
+        lambda found, bits: [f for f in found if f != 3 or bits % 256 != 0x5FEE % 256]),
+    "CRC of a sequence not judged": faults_by(lambda found, bits: [f for f in found if f != 4]),
+    "CRC of a sequence over 16 to 93": crc_over(*range(16, 94)),
+    "CRC of a sequence over 0 to 77": crc_over(*range(78)),
+    "CRC of a sequence over 18 to 77": crc_over(*range(18, 78)),
+    "CRC of a sequence over 24 to 77": crc_over(*range(24, 78)),
+    "CRC of a sequence over 16 to 76": crc_over(*range(16, 77)),
+    "CRC of a sequence without 18 to 23": crc_over(16, 17, *range(24, 78)),
+    "CRC of a sequence from bit 77 down": crc_over(*range(77, 15, -1)),
+    "CRC of a sequence highest bit first": crc_by(lambda crc: mirrored_in(16, crc)),
+    "CRC of a sequence complemented": crc_by(lambda crc: crc ^ 0xFFFF),
+    "CRC of a sequence from zero": {"control.crc_of": crc_from_zero},
+    "CRC of a sequence at 80": {"control.CRC_AT": 80},
+    "cleardown and retrain exchanged": number_by(
+        lambda number: number & ~3 | mirrored_in(2, number)),
+    "secondary data highest bit first": number_by(
+        lambda number: number % 4 | mirrored_in(54, number >> 2) << 2),
+    "secondary data from bit 18 on": {"control.DATA_AT": 18},
+    "bits 56 to 63 of the number used": {
+        "control.sequence_of": lambda number:
+        (RIGHT_CONTROL["sequence_of"](number) ^ number >> 56 << 78) % 2**96},
+    "CRC wrong before pattern wrong": faults_by(lambda found, bits: sorted(
+        found, key=(2, 4, 3).index)),
+    "frame lost after pattern wrong": faults_by(lambda found, bits: sorted(
+        found, key=(3, 2, 4).index)),
+    "frame lost last": faults_by(lambda found, bits: sorted(found, key=(3, 4, 2).index)),
+    "18:23 judged as the pattern": faults_by(lambda found, bits: sorted(
+        found + [3] * bool(bits >> 18 & 63))),
+    "18:23 judged as the CRC": faults_by(lambda found, bits: sorted(
+        found + [4] * bool(bits >> 18 & 63))),
+    "94:95 judged": faults_by(lambda found, bits: sorted(found + [4] * bool(bits >> 94))),
+    "bits heard where a sequence is wrong": {"control.heard_in": lambda bits, lost:
+                                             RIGHT_CONTROL["heard_in"](bits, lost)._replace(
+                                                 number=RIGHT_CONTROL["number_in"](bits))},
+    "18:23 heard": {"control.number_in": lambda bits:
+                    bits >> 16 & 3 | bits >> 18 << 2 & 2**56 - 1},
+    "sequences told from 0": {"control.heard_in": lambda bits, lost: control.Heard(
+        *(lambda told: (told.what - 1, told.number))(RIGHT_CONTROL["heard_in"](bits, lost)))},
+    "nothing heard": heard_by(lambda before, after, told: control.NOTHING),
+    "heard again while the next has not started": heard_by(
+        lambda before, after, told: told if after.sequence_place or ended(told)
+        else control.heard_in(after.sequence, after.lost)),
+    "heard at the start of the next": {"frames.ends_sequence": lambda channel, state:
+                                       frames.is_control(channel, state)
+                                       and state.sequence_place == 0},
+    "heard one frame early": {"frames.ends_sequence": lambda channel, state:
+                              frames.is_control(channel, state) and state.sequence_place == 14},
+}
+
+
 def stored_rows():
     """The stored rows of Table 1 and lines of the DIL."""
     return (stored_text("vectors_pcm/stdout") + stored_text("vectors_dil/stdout")).splitlines()
@@ -1611,20 +2428,28 @@ def changed(changes):
 
 
 def stopped(changes, both, stored):
-    """How many stored cases, rows and lines a wrong codec, given by what it changes, fails."""
+    """How many stored cases, rows and lines a wrong codec, given by what it changes, fails.
+
+    Without -v no more than the first is looked for.
+    """
     with changed(changes):
-        return sum(forms.answer(case) != answer for case, answer in both) + failed_rows(stored)
+        failed = (forms.answer(case) != answer for case, answer in both)
+        if "-v" not in sys.argv:
+            return int(any(failed)) or failed_rows(stored)
+        return sum(failed) + failed_rows(stored)
 
 
 def wrong_codecs():
-    """Every wrong codec fails at a stored case, row or line."""
-    both, stored = stored_cases(), stored_rows()
-    found = {name: stopped(changes, both, stored) for name, changes in WRONG_CODECS.items()}
+    """Every wrong codec fails at a stored case, row or line; the short ones are looked at first."""
+    both, stored = sorted(stored_cases(), key=lambda pair: len(pair[0])), stored_rows()
+    wrong = WRONG_CODECS | WRONG_CHANNELS
+    found = {name: stopped(changes, both, stored) for name, changes in wrong.items()}
     if "-v" in sys.argv:
         for name, count in found.items():
             print(f"    {name}: fails {count} of {len(both) + len(stored)}")
     check(all(found.values()), f"not stopped: {[name for name in found if not found[name]]}")
     same(stopped({}, both, stored), 0, "the model itself")
+    same(len(found), len(WRONG_CODECS) + len(WRONG_CHANNELS), "names")
     return f"{len(found)} stopped"
 
 
@@ -1869,42 +2694,56 @@ def a_length(draw, n):
     return 6200 if n % 40 == 7 else draw.pick((0, 1, 2, 3, draw.below(200)))
 
 
+def frames_for(record, channel, length):
+    """(Frames that are filled, frames that are whole) for so many bytes, counted one by one."""
+    whole, bits = 0, 0
+    while True:
+        width = k_of(record) + (0 if channel and whole % 64 == 0 else 6)
+        if bits + width > 8 * length:
+            return whole + (bits < 8 * length), whole, bits
+        whole, bits = whole + 1, bits + width
+
+
 def program_round_trips():
     """Sent and received, filled and exact; the octets are those of the sender's calls."""
     draw = Draw(5)
-    for n in range(200):
-        record, law = a_record(draw, 1 + n % 28), draw.below(2)
-        data, width = draw.octets(a_length(draw, n)), frames.frame_bits(record)
+    for n in range(240):
+        record, law, channel = a_record(draw, 1 + n % 28), draw.below(2), draw.below(2)
+        data = draw.octets(a_length(draw, n))
         files = {"r.cp": cases_cp.plain(record), "data": data}
-        words = f"r.cp {('mu', 'a')[law]}"
+        words = f"r.cp {('mu', 'a')[law]}{' control' * channel}"
         script = (f"send {words} < data > octets\nreceive {words} {len(data)} < octets > back\n"
                   f"receive {words} < octets > all\n"
                   f"send {words} exact < data > part\nreceive {words} < part > begin\n")
         lines = program.transcript(files, script).decode().splitlines()
         check("v91: failed" not in lines, f"failed: {lines}")
         same(files["back"], data, "data received")
-        count, whole = -(-8 * len(data) // width), 8 * len(data) // width
-        same(files["all"], data.ljust(frames.data_bytes(record, count), b"\0"), "data and zeros")
-        begin = frames.get_bits(data, 0, whole * width)
-        same(files["begin"], begin.to_bytes(frames.data_bytes(record, whole), "little"),
-             "data of whole frames")
+        count, whole, bits = frames_for(record, channel, len(data))
+        needed = frames.data_bytes(record, count, channel)
+        same(files["all"], data.ljust(needed, b"\0"), "data and zeros")
+        begin = frames.get_bits(data, 0, bits)
+        same(files["begin"], begin.to_bytes((bits + 7) // 8, "little"), "data of whole frames")
         if count <= 1024:
-            same(files["octets"], sent(record, law, count, FRESH, data + bytes(6))[0], "octets")
+            octets, _ = sent(record, law, count, FRESH, data + bytes(6), channel)
+            same(files["octets"], octets, "octets")
         same(files["part"], files["octets"][:6 * whole], "octets of whole frames")
-    return "200 messages"
+    return "240 messages"
 
 
-def doubtful_one_by_one(marks, width, cold):
+def doubtful_one_by_one(marks, widths, cold):
     """(Bits of good frames that are doubtful, and of the 24 to come), each bit by itself.
 
     It is doubtful where one of the 24 bits before it is a marked frame's or comes before the start
-    of a receiver that begins cold.
+    of a receiver that begins cold; a marked frame with fewer bits than that counts as 24.
     """
-    end = len(marks) * width
-    hurt = [cold] * 24 + [mark > 0 for mark in marks for _ in range(width)] + [False] * 24
-    doubtful = [any(hurt[place:place + 24]) for place in range(end + 24)]
-    good = [mark == 0 for mark in marks for _ in range(width)]
-    return sum(doubtful[p] for p in range(end) if good[p]), sum(doubtful[end:])
+    line = [(cold, False)] * 24
+    for mark, width in zip(marks, widths):
+        line += [(mark > 0, mark == 0)] * width if not mark else [(True, False)] * max(width, 24)
+    hurt = [bad for bad, _ in line] + [False] * 24
+    doubtful = [any(hurt[place - 24:place]) for place in range(24, len(line) + 24)]
+    good = [is_good for _, is_good in line[24:]]
+    return (sum(doubt for doubt, is_good in zip(doubtful, good) if is_good),
+            sum(doubtful[len(good):]))
 
 
 def program_doubts():
@@ -1915,18 +2754,56 @@ def program_doubts():
     draw = Draw(6)
     for n in range(300):
         record, law, state = a_record(draw, 1 + n % 27), draw.below(2), draw.pick((FRESH, COLD))
-        kinds = [0, 0, draw.pick(cases_frames.possible_marks(record))]
-        marks = [draw.pick(kinds) for _ in range(draw.below(12))]
+        kinds, channel = [0, 0, draw.pick(cases_frames.possible_marks(record))], draw.below(2)
+        marks = [draw.pick(kinds) for _ in range(draw.pick((draw.below(12), draw.below(70))))]
         line = b"".join(cases_frames.a_frame(draw, record, law, mark) for mark in marks)
-        got = program.reception(record, law, state, line)
+        got = program.reception(record, law, channel, state, line)
         same(got.marks, marks, "marks")
+        widths = widths_of(record, 0, [channel] * len(marks))
         same((got.doubtful, got.state.doubtful),
-             doubtful_one_by_one(marks, frames.frame_bits(record), state == COLD), "doubtful")
-    got = program.reception(trial.EIGHTS, MU, COLD, trial.lines_of_octets()["middle"])
+             doubtful_one_by_one(marks, widths, state == COLD), "doubtful")
+    got = program.reception(trial.EIGHTS, MU, 0, COLD, trial.lines_of_octets()["middle"])
     whole = trial.messages()["two"]
     same((got.doubtful, got.data[3:]), (24, whole[6:]), "a line without its first frame")
     check(got.data[:3] != whole[3:6], "no bit is wrong after a cold start")
     return "300 receptions, a line without its first frame"
+
+
+def a_sequence_command(draw):
+    """(Words of send, the number that they tell): in any order, in capitals and not, repeated."""
+    digits = "".join(draw.pick("01") for _ in range(draw.pick((1, 54, draw.between(1, 54)))))
+    cleardown, retrain, has_data = draw.below(2), draw.below(2), draw.below(4) > 0
+    words = ["control"] + ["cleardown"] * cleardown + ["retrain"] * retrain
+    for _ in range(3):
+        one, other = draw.below(len(words)), draw.below(len(words))
+        words[one], words[other] = words[other], words[one]
+    words = [draw.pick((word, word.upper(), word.capitalize())) for word in words]
+    if has_data:
+        at = draw.below(len(words) + 1)
+        words[at:at] = draw.pick(([digits], ["1", digits]))
+    number = cleardown | retrain << 1 | (int(digits[::-1], 2) << 2 if has_data else 0)
+    return " ".join(words), number
+
+
+def program_sequences():
+    """What words of send tell is heard by receive, in each sequence of two, and in which frame."""
+    draw = Draw(8)
+    for n in range(20):
+        words, number = a_sequence_command(draw)
+        count = draw.pick((960, 961, 1985))
+        data = draw.octets(frames.data_bits(EXAMPLE, count, 1) // 8)
+        files = {"r.cp": cases_cp.plain(EXAMPLE), "data": data}
+        program.transcript(files, f"send r.cp mu {words} < data > octets")
+        lines = said(files, "receive r.cp mu control < octets > back")
+        state = ("no", "yes")
+        what = (f": control sequence heard: cleardown {state[number & 1]}, "
+                f"retrain {state[number >> 1 & 1]}, data "
+                + "".join(str(number >> n & 1) for n in range(2, 56)))
+        same([line for line in lines if "sequence" in line],
+             [f"v91: frame {frame}{what}" for frame in (960, 1984) if frame < count],
+             f"heard of {words}")
+        same(files["back"][:len(data)], data, "data")
+    return "20 commands"
 
 
 def program_sentences():
@@ -1954,6 +2831,7 @@ def program_sentences():
          ["v91: 0 frames received, 0 of them marked", "v91: 24 coming bits to distrust", "v91: ok"],
          "nothing received cold")
     same(program.coming_sentence(State(5, 1, 1)), "1 coming bit to distrust", "one bit")
+    channel_sentences()
     same(said(files, "linear mu < data"), ["-356", "-340", "v91: ok"], "linear")
     same(said(files, "dil a > line"), ["v91: 125 segments of 12 octets sent", "v91: ok"], "dil")
     same(files["line"], dil.octets_of(A, dil.TABLE_5), "the octets of dil")
@@ -1967,6 +2845,32 @@ def program_sentences():
     same([describe.wrong_bits(ones, heard, *part) for part in ((0, 21), (45, 18))], [21, 0],
          "bits of the demo")
     return "marks, words, rates, the demo"
+
+
+def channel_sentences():
+    """What is said of sequences, and where between runs of marks, by examples."""
+    ends = [(2, control.Heard(2)), (4, control.Heard(3)), (5, control.Heard(4)),
+            (7, control.Heard(1, 0b110))]
+    got = program.Reception(b"", [0, 7, 1, 1, 0, 2, 2, 2, 0], 0, ends, FRESH)
+    run = "interval {} outside its mask"
+    same(program.frame_sentences(got), [
+        "frame 1: the number R is 2^K or more",
+        "frame 2: control sequence lost, a frame of it is marked",
+        f"frames 2 to 3: {run.format(0)}; the 24 bits after that are doubtful",
+        "frame 4: control sequence wrong, its pattern",
+        "frame 5: control sequence wrong, its CRC",
+        f"frame 7: control sequence heard: cleardown no, retrain yes, data 1{'0' * 53}",
+        f"frames 5 to 7: {run.format(1)}; the 24 bits after that are doubtful"], "sequences")
+    files = {"example.cp": cases_cp.plain(EXAMPLE), "data": b"ab"}
+    same(said(files, "send example.cp MU Control < data > line"),
+         ["v91: 2 frames sent; 20 zero bits added to fill the last one", "v91: ok"], "send")
+    same(said(files, "send example.cp MU exact 1 Control < data > line"),
+         ["v91: 1 frame sent; 1 bit of data at the end not sent, too few for a frame", "v91: ok"],
+         "send exact")
+    for words in ("cleardown", "1", "retrain exact", "control 2", "control " + 55 * "1", "on"):
+        same(said(files, f"send example.cp mu {words} < data > line")[:-1],
+             ["v91: after LAW send takes the words exact, progress and control alone, and after "
+              "control cleardown, retrain and up to 54 binary digits"], words)
 
 
 def a_picture(k, law, spacing):
@@ -2099,22 +3003,24 @@ def stored_run():
 
 CALL = frames.MOST_FRAMES
 RIGHT_PROGRAM = {name: getattr(program, name)
-                 for name in ("COMMANDS", "bytes_wanted", "check_ceiling", "cp_in", "number_for",
-                              "octets_for", "plan_sentence", "receive", "reception",
-                              "run_sentence", "runs_of", "send", "state_told", "summary",
-                              "write_dil", "write_plan")}
+                 for name in ("COMMANDS", "bytes_wanted", "check_ceiling", "check_send_words",
+                              "cp_in", "data_told", "frame_count", "frame_sentences", "has_word",
+                              "number_for", "number_told", "octets_for", "octets_read",
+                              "plan_sentence", "receive", "reception", "run_sentence", "runs_of",
+                              "send", "sent_sentence", "sequence_sentence", "state_told",
+                              "summary", "write_dil", "write_plan")}
 RIGHT_RUNS = describe.ucode_runs
 RIGHT_PICTURE = {name: getattr(picture, name)
                  for name in ("Picture", "bar", "drawn_at", "drawing", "gaps_of", "grid_lines",
                               "row_line", "row_lines", "text_lines")}
 
 
-def sender_fresh_each_call(record, law, count, data):
+def sender_fresh_each_call(record, law, channel, number, count, data):
     """Each call of the sender begins in the fresh state."""
-    step = frames.data_bytes(record, CALL)
-    return b"".join(RIGHT_PROGRAM["octets_for"](record, law, min(CALL, count - first),
-                                                data[first // CALL * step:])
-                    for first in range(0, count, CALL))
+    step = frames.data_bytes(record, CALL, channel)
+    return b"".join(RIGHT_PROGRAM["octets_for"](record, law, channel, number,
+                                                min(CALL, count - CALL * n), data[n * step:])
+                    for n in range(-(-count // CALL)))
 
 
 def between_calls(change):
@@ -2122,13 +3028,14 @@ def between_calls(change):
 
     It is made from the state in which the first began and the one that the last left.
     """
-    def reception(record, law, state, octets):
-        got = RIGHT_PROGRAM["reception"](record, law, state, octets[:6 * CALL])
+    def reception(record, law, channel, state, octets):
+        got = RIGHT_PROGRAM["reception"](record, law, channel, state, octets[:6 * CALL])
         for first in range(6 * CALL, len(octets), 6 * CALL):
-            data, marks, doubtful, left = RIGHT_PROGRAM["reception"](
-                record, law, change(state, got.state), octets[first:first + 6 * CALL])
+            data, marks, doubtful, heard_of, left = RIGHT_PROGRAM["reception"](
+                record, law, channel, change(state, got.state), octets[first:first + 6 * CALL])
+            heard_of = [(frame + first // 6, told) for frame, told in heard_of]
             got = program.Reception(got.data + data, got.marks + marks, got.doubtful + doubtful,
-                                    left)
+                                    got.heard + heard_of, left)
         return got
     return {"program.reception": reception}
 
@@ -2159,14 +3066,14 @@ def received_from(part, change):
 
 def not_begun_cold(part):
     """The changes that make a part of a reception as if the receiver began with the count 0."""
-    return received_from(part, lambda record, law, state, octets: getattr(
-        RIGHT_PROGRAM["reception"](record, law, state._replace(doubtful=0), octets), part))
+    return received_from(part, lambda record, law, channel, state, octets: getattr(
+        RIGHT_PROGRAM["reception"](record, law, channel, state._replace(doubtful=0), octets), part))
 
 
-def state_before_last(record, law, state, octets):
+def state_before_last(record, law, channel, state, octets):
     """The state before the last frame."""
     count = max(len(octets) // 6 - 1, 0)
-    return RIGHT_PROGRAM["reception"](record, law, state, octets[:6 * count]).state
+    return RIGHT_PROGRAM["reception"](record, law, channel, state, octets[:6 * count]).state
 
 
 def told_cold(state):
@@ -2229,19 +3136,20 @@ def told_of_progress_alone(words):
     try:
         return RIGHT_PROGRAM["bytes_wanted"](words)
     except program.Failed as failure:
-        said_of = failure.args[0].replace("words cold and progress", "word progress")
+        said_of = failure.args[0].replace("cold, control", "control")
         raise program.Failed(said_of) from None
 
 
-def filled_with_ones(record, law, count, data):
+def filled_with_ones(*args):
     """The last frame is filled with one bits."""
-    return RIGHT_PROGRAM["octets_for"](record, law, count, data + b"\xff" * 6)
+    *others, data = args
+    return RIGHT_PROGRAM["octets_for"](*others, data + b"\xff" * 6)
 
 
-def full_bytes(record, law, state, octets):
+def full_bytes(record, law, channel, *rest):
     """Only those bytes of the data that are full."""
-    got = RIGHT_PROGRAM["reception"](record, law, state, octets)
-    return got.data[:len(got.marks) * frames.frame_bits(record) // 8]
+    got = RIGHT_PROGRAM["reception"](record, law, channel, *rest)
+    return got.data[:frames.data_bits(record, len(got.marks), channel) // 8]
 
 
 def first_number_kept(words):
@@ -2256,9 +3164,9 @@ def cp_before_law(call, cp_name, *words):
     RIGHT_PROGRAM["send"](call, cp_name, *words)
 
 
-def exact_unread(record, data, exact):
+def exact_unread(record, channel, data, exact):
     """The last frame is always filled."""
-    return -(-8 * len(data) // frames.frame_bits(record))
+    return RIGHT_PROGRAM["frame_count"](record, channel, data, False)
 
 
 def runs_in_halves(mask):
@@ -2288,7 +3196,8 @@ def dil_written(change):
 
 def dil_with_progress(call, law_name, *options):
     """The word progress is taken after LAW."""
-    program.check_options("dil", options, ("progress",))
+    if options and not program.has_word(options, "progress"):
+        raise program.Failed("after LAW dil takes the word progress alone")
     RIGHT_PROGRAM["write_dil"](call, law_name)
 
 
@@ -2464,8 +3373,8 @@ WRONG_PROGRAMS = {
                                       else words),
     "cold taken by send": {"program.COMMANDS": commands_with(send=send_with_cold)},
     "cold not told of": {"program.bytes_wanted": told_of_progress_alone},
-    "five words of receive": receive_taking(4),
-    "seven words of receive": receive_taking(6),
+    "six words of receive": receive_taking(5),
+    "eight words of receive": receive_taking(7),
     "bits to come not said where 0": summed_up(lambda said, got:
                                                said if got.state.doubtful else said[:-1]),
     "bits to come not said of no frames": summed_up(lambda said, got:
@@ -2614,35 +3523,242 @@ WRONG_PROGRAMS = {
 }
 
 
+def sentences_by(change):
+    """The changes that say another sentence of a sequence, by its frame, Heard and the right."""
+    return {"program.sequence_sentence": lambda frame, told: change(
+        frame, told, RIGHT_PROGRAM["sequence_sentence"](frame, told))}
+
+
+def in_another_order(key):
+    """The changes that say runs and sequences in another order.
+
+    It is made from the frame after a run, or the last of a sequence, and which of them it is.
+    """
+    def frame_sentences(got):
+        runs = zip(program.marked_runs(got.marks), program.run_sentences(got.marks))
+        said_of = [(last + 1, 0, sentence) for (_, _, last), sentence in runs][:program.MOST_RUNS]
+        said_of += [(frame, 1, program.sequence_sentence(frame, told)) for frame, told in got.heard]
+        return [sentence for *_, sentence in sorted(said_of, key=lambda each: key(*each[:2]))]
+    return {"program.frame_sentences": frame_sentences}
+
+
+def counted_with_runs(got):
+    """Sequences count among the sentences that are said."""
+    return RIGHT_PROGRAM["frame_sentences"](got)[:program.MOST_RUNS]
+
+
+def heard_changed(change):
+    """The changes that keep other sequences than all, made from what is heard."""
+    def reception(*args):
+        got = RIGHT_PROGRAM["reception"](*args)
+        return got._replace(heard=change(got.heard))
+    return {"program.reception": reception}
+
+
+def words_by(change):
+    """The changes that let send take other words, as if they were those made of them."""
+    def command(call, cp_name, law_name, *options):
+        RIGHT_PROGRAM["send"](call, cp_name, law_name, *change(options))
+    return {"program.COMMANDS": commands_with(send=command)}
+
+
+def after_control_alone(words):
+    """The words of the channel are taken only where they follow the word control."""
+    small = [word.lower() for word in words]
+    at = small.index("control") if "control" in small else len(small)
+    hidden = ["x" if word in ("cleardown", "retrain") or program.is_data(word) else word
+              for word in small[:at]]
+    return [*hidden, *words[at:]]
+
+
+def send_taking(most):
+    """The changes that let send take so many words."""
+    return {"program.COMMANDS": program.COMMANDS | {"send": (program.send, 2, most)}}
+
+
+def channel_unread(name):
+    """The changes that let a command take the word control and not look at it."""
+    def command(call, cp_name, law_name, *options):
+        left = [word for word in options if word.lower() != "control"]
+        if name == "send":
+            program.check_send_words(options)
+            left = [word for word in left if word.lower() in ("exact", "progress")]
+        RIGHT_PROGRAM[name](call, cp_name, law_name, *left)
+    return {"program.COMMANDS": commands_with(**{name: command})}
+
+
+def told_of_words(name, before, after):
+    """The changes that say something else of wrong words."""
+    def looked_at(words):
+        try:
+            return RIGHT_PROGRAM[name](words)
+        except program.Failed as failure:
+            raise program.Failed(failure.args[0].replace(before, after)) from None
+    return {f"program.{name}": looked_at}
+
+
+def number_changed(change):
+    """The changes that make other 56 bits of the words, from them and the right ones."""
+    return {"program.number_told": lambda words: change(words, RIGHT_PROGRAM["number_told"](words))}
+
+
+def last_frame_of_d(record, channel, data, exact):
+    """The frames of data where each has D bits."""
+    return RIGHT_PROGRAM["frame_count"](record, 0, data, exact)
+
+
+def said_by_d(record, channel, count, data):
+    """What is said of the last frame takes it for one of D bits."""
+    if channel and count % 64 == 1:
+        bits = program.data_bits(record, count, channel)
+        return RIGHT_PROGRAM["sent_sentence"](record, 0, count, data) if bits else ""
+    return RIGHT_PROGRAM["sent_sentence"](record, channel, count, data)
+
+
+def read_by_d(record, channel, octets, wanted):
+    """BYTES are counted as if each frame had D bits."""
+    return RIGHT_PROGRAM["octets_read"](record, 0, octets, wanted)
+
+
+def doubtful_by_d(record, law, channel, state, octets):
+    """How many bits are doubtful, where a control frame counts with D."""
+    doubtful = 0
+    for n in range(len(octets) // 6):
+        before = state.doubtful
+        mark, _, state = frames.receive_frame(record, law, state, channel, octets[6 * n:6 * n + 6])
+        doubtful += program.doubtful_bits(mark, frames.frame_bits(record), before)
+    return doubtful
+
+
+WRONG_CHANNEL_PROGRAMS = {
+    "send: control not looked at": channel_unread("send"),
+    "receive: control not looked at": channel_unread("receive"),
+    "control always": {"program.has_word": lambda words, wanted:
+                       wanted == "control" or RIGHT_PROGRAM["has_word"](words, wanted)},
+    "words of the channel after control alone": words_by(after_control_alone),
+    "words of the channel without control": words_by(
+        lambda words: [*words, "control"] if any(word.lower() in ("cleardown", "retrain")
+                                                 or program.is_data(word) for word in words)
+        else words),
+    "words of the channel in small letters alone": {
+        "program.has_word": lambda words, wanted: wanted in words},
+    "seven words of send": send_taking(7),
+    "nine words of send": send_taking(9),
+    "53 digits": {"program.is_data": lambda word: bool(re.fullmatch("[01]{1,53}", word))},
+    "55 digits": {"program.is_data": lambda word: bool(re.fullmatch("[01]{1,55}", word))},
+    "any digits": {"program.is_data": lambda word: bool(re.fullmatch("[0-9]{1,54}", word)),
+                   "program.data_told": lambda words: 0},
+    "digits of the first such word": {"program.data_told": lambda words: RIGHT_PROGRAM["data_told"](
+        [*filter(program.is_data, words), "0"][:1])},
+    "digits from the last": {"program.data_told": lambda words: int(
+        ["0", *filter(program.is_data, words)][-1], 2)},
+    "digits put at the end": {"program.data_told": lambda words: (
+        lambda digits: int(digits[::-1], 2) << 54 - len(digits))(
+            ["0", *filter(program.is_data, words)][-1])},
+    "digits missing are 1": {"program.data_told": lambda words: (
+        lambda digits: int(digits[::-1], 2) | 2**54 - 2 ** len(digits))(
+            ["0", *filter(program.is_data, words)][-1])},
+    "cleardown not sent": number_changed(lambda words, number: number & ~1),
+    "retrain not sent": number_changed(lambda words, number: number & ~2),
+    "cleardown and retrain exchanged by send": number_changed(
+        lambda words, number: number & ~3 | mirrored_in(2, number)),
+    "control not told of by send": told_of_words("check_send_words", "exact, progress and control",
+                                                 "exact and progress"),
+    "digits not told of by send": told_of_words("check_send_words",
+                                                " and up to 54 binary digits", ""),
+    "control not told of by receive": told_of_words("bytes_wanted", "cold, control", "cold"),
+    "frames of D bits alone counted": {"program.frame_count": last_frame_of_d},
+    "the last frame said to have D bits": {"program.sent_sentence": said_by_d},
+    "the first sequence alone sent as told": {
+        "program.send_frame": lambda record, law, state, channel, number, data: frames.send_frame(
+            record, law, state, channel, 0 if state.sequence else number, data)},
+    "BYTES by frames of D bits": {"program.octets_read": read_by_d},
+    "doubt of D bits in control frames": received_from("doubtful", doubtful_by_d),
+    "receiver's frame place fresh in each call": between_calls(
+        lambda begun, left: left._replace(frame_place=1)),
+    "receiver's sequence place 1 in each call": between_calls(
+        lambda begun, left: left._replace(sequence_place=1)),
+    "sequences of the last call alone said": heard_changed(
+        lambda heard_of: [each for each in heard_of if each[0] >= 1024]),
+    "the last sequence alone said": heard_changed(lambda heard_of: heard_of[-1:]),
+    "the first sequence alone said": heard_changed(lambda heard_of: heard_of[:1]),
+    "sequences that are right alone said": heard_changed(
+        lambda heard_of: [each for each in heard_of if each[1].what == control.HEARD]),
+    "frames of sequences counted from 1": heard_changed(
+        lambda heard_of: [(frame + 1, told) for frame, told in heard_of]),
+    "frames of sequences counted in the call": heard_changed(
+        lambda heard_of: [(frame % 1024, told) for frame, told in heard_of]),
+    "control frames counted in place of frames": heard_changed(
+        lambda heard_of: [(frame // 64, told) for frame, told in heard_of]),
+    "the first frame of a sequence said": heard_changed(
+        lambda heard_of: [(frame - 960, told) for frame, told in heard_of]),
+    "sequences before the run that ends": in_another_order(lambda frame, kind: (frame, -kind)),
+    "sequences after the run that they end in": in_another_order(
+        lambda frame, kind: (frame + kind, kind)),
+    "sequences before all runs": in_another_order(lambda frame, kind: (-kind, frame)),
+    "sequences after all runs": in_another_order(lambda frame, kind: (kind, frame)),
+    "sequences counted with runs": {"program.frame_sentences": counted_with_runs},
+    "digits heard as few as are needed": sentences_by(
+        lambda frame, told, right: right.rstrip("0") if told.what == control.HEARD else right),
+    "digits heard from the last": sentences_by(lambda frame, told, right: right[:-54]
+                                               + right[:-55:-1] if told.what == 1 else right),
+    "cleardown and retrain exchanged by receive": sentences_by(
+        lambda frame, told, right: RIGHT_PROGRAM["sequence_sentence"](
+            frame, told._replace(number=told.number & ~3 | mirrored_in(2, told.number)))),
+    "cleardown said as 1": sentences_by(
+        lambda frame, told, right: right.replace("yes", "1").replace("no,", "0,")),
+    "a lost sequence said to be wrong": sentences_by(
+        lambda frame, told, right: right.replace("lost, a frame of it is marked", "wrong, lost")),
+    "pattern and CRC exchanged": sentences_by(
+        lambda frame, told, right: RIGHT_PROGRAM["sequence_sentence"](
+            frame, told._replace(what=(0, 1, 2, 4, 3)[told.what]))),
+    "cold at another frame place": told_cold(COLD._replace(frame_place=1)),
+    "cold at another sequence place": told_cold(COLD._replace(sequence_place=1)),
+    "version 4": {"program.VERSION": "v91 4"},
+}
+
+
 def first_differing(changes, wanted):
     """The line, from 1, at which a wrong program's run first differs; 0 where it does not.
 
     The program is given by what it changes.
     """
-    data = stored_data()
+    data, line = stored_data(), 0
     with changed(changes):
-        found = program.transcript(data, data[trial.NAME].decode("ascii")).splitlines()
-    differ = [a != b for a, b in zip_longest(found, wanted)]
-    return differ.index(True) + 1 if any(differ) else 0
+        for written in program.outputs(data, data[trial.NAME].decode("ascii")):
+            found = written.splitlines()
+            differ = [one != other for one, other in zip(found, wanted[line:])]
+            if any(differ) or line + len(found) > len(wanted):
+                return line + [*differ, True].index(True) + 1
+            line += len(found)
+    return 0 if line == len(wanted) else line + 1
 
 
 def wrong_programs():
-    """Every wrong program differs from the stored run."""
+    """Every wrong program differs from the stored run. A frame that is made again is remembered."""
     wanted = vectors.stored("v91/stdout").splitlines()
-    found = {name: first_differing(changes, wanted) for name, changes in WRONG_PROGRAMS.items()}
+    wrong = WRONG_PROGRAMS | WRONG_CHANNEL_PROGRAMS
+    remembered = {f"program.{name}": lru_cache(maxsize=None)(getattr(frames, name))
+                  for name in ("send_frame", "receive_frame")}
+    with changed(remembered):
+        found = {name: first_differing(changes, wanted) for name, changes in wrong.items()}
     if "-v" in sys.argv:
         for name, line in found.items():
             print(f"    {name}: differs from line {line} of {len(wanted)} on")
     check(all(found.values()), f"not stopped: {[name for name in found if not found[name]]}")
     same(first_differing({}, wanted), 0, "the model itself")
+    same(len(found), len(WRONG_PROGRAMS) + len(WRONG_CHANNEL_PROGRAMS), "names")
     return f"{len(found)} stopped"
 
 
 GROUPS = (table_1, examples, values, steps, cp_round_trips, demand_3, distrust, other_counts,
           stored_answers, stored_refusals, stored_coverage, stored_counts, empty_intervals,
+          sequences, calls_of_the_channel, channel_runs, like_states, passed_through,
+          stored_channel,
           other_dils, default_dil, wrong_codecs, plan_sizes, plan_least, plan_answers, plan_ranges,
           plan_largest, stored_plans, wrong_planners, program_round_trips, program_doubts,
-          program_sentences, plan_sentences, pictures, stored_run, wrong_programs)
+          program_sequences, program_sentences, plan_sentences, pictures, stored_run,
+          wrong_programs)
 
 
 def main():

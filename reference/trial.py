@@ -91,7 +91,10 @@ def refused_cps():
 # Data to be sent
 
 def messages():
-    """Texts. A frame of the example has 21 bits, so `whole` has no bit too few or too many."""
+    """Texts. A frame of the example has 21 bits, so `whole` has no bit too few or too many.
+
+    With the control channel on `sixty` has 14 of the 15 bits of a control frame at its end.
+    """
     return {
         "nothing": b"",
         "newline": b"\n",
@@ -100,6 +103,9 @@ def messages():
         "spare": b"One bit more\n",
         "eight": b"8 bytes\n",
         "two": b"The first line\nand the second\n",
+        "sixty": b"With the control channel on 64 frames of the example have 1338 bits,\n"
+                 b"and 65 have 1353. This text has 1352: all but one of the bits that\n"
+                 b"a frame like the last can carry.\n",
         "verse": b"".join(b"line %02d of more than 1024 frames of 21\n" % n for n in range(72)),
     }
 
@@ -119,7 +125,24 @@ def joined():
     """Data for 1,040 frames under SEVEN whose R is as above."""
     frames = [ucodes_for(interval_masks(SEVEN), r_of_joined(n)) for n in range(1040)]
     line = bytes(octet_of(MU, ucode & 1, ucode) for frame in frames for ucode in frame)
-    return reception(SEVEN, MU, FRESH, line).data
+    return reception(SEVEN, MU, 0, FRESH, line).data
+
+
+def r_of_channel(n):
+    """R of a frame of `channel`, by the frames that are to be marked.
+
+    Under the example the first control frame is marked, under LACKING the last of the first
+    sequence; other runs of marks end just before a sequence does or begin just after it.
+    """
+    of_example, of_lacking = n in (0, 1, 100, 959, 961, 1985), n in (5, 959, 960, 1983, 1985)
+    return (0 if of_example else 6**5) + 6 * (n * n % 991) + (5 if of_lacking else n % 5)
+
+
+def channel_data():
+    """Data for 1,990 frames under SEVEN, with the control channel on, whose R is as above."""
+    frames = [ucodes_for(interval_masks(SEVEN), r_of_channel(n)) for n in range(1990)]
+    line = bytes(octet_of(MU, ucode & 1, ucode) for frame in frames for ucode in frame)
+    return reception(SEVEN, MU, 1, FRESH, line).data
 
 
 # Octets to be received
@@ -132,7 +155,7 @@ DAMAGED = (0, 0, 3, 0, 0, 7, 7, 7, 0, 1, 2, 2, 0, 0, 0, 6, 0, 4, 5, 7, 7, 0, 0, 
 def damaged(draw, record, law, marks):
     """Frames of data at random of which some are replaced so that they get these marks."""
     data = draw.octets(data_bytes(record, len(marks)))
-    line = octets_for(record, law, len(marks), data)
+    line = octets_for(record, law, 0, 0, len(marks), data)
     return b"".join(a_frame(draw, record, law, mark) if mark else line[6 * n:6 * n + 6]
                     for n, mark in enumerate(marks))
 
@@ -147,6 +170,21 @@ def many_marks(draw, record):
     return [draw.pick((0, 0, *marks)) for _ in range(60)]
 
 
+# Marks of frames of `slips`: just before the first sequence ends and just after it, then more runs
+# than are said, one in a control frame of the second sequence.
+SLIPS = {959: 3, 961: 7, 962: 7, **dict.fromkeys(range(1100, 1140, 2), 1), 1216: 2}
+
+
+def slips(draw):
+    """Octets of two sequences: the first has two bits not as sent, the second a marked frame."""
+    data = draw.octets(data_bytes(EXAMPLE, 1986, 1))
+    line = bytearray(octets_for(EXAMPLE, MU, 1, draw.bits(56), 1986, data))
+    line[6 * 320 + 2] ^= 0x80
+    for n, mark in SLIPS.items():
+        line[6 * n:6 * n + 6] = a_frame(draw, EXAMPLE, MU, mark)
+    return bytes(line)
+
+
 def lines_of_octets():
     """Octets: damaged frames, some that make no frame, and a line without its first frame."""
     draw = Draw(33)
@@ -154,20 +192,22 @@ def lines_of_octets():
     return {
         "damaged": damaged(draw, EXAMPLE, MU, DAMAGED),
         "many": damaged(draw, GAPS, A, many_marks(draw, GAPS)) + draw.octets(2),
-        "ragged": octets_for(EXAMPLE, A, 8, hello) + draw.octets(1),
+        "ragged": octets_for(EXAMPLE, A, 0, 0, 8, hello) + draw.octets(1),
         "five": draw.octets(5),
         "every": bytes(range(256)),
         "bad_first": damaged(draw, EXAMPLE, MU, BAD_FIRST),
         "bad_later": damaged(draw, EXAMPLE, MU, BAD_LATER),
         "bad_last": damaged(draw, EXAMPLE, MU, BAD_LAST),
         "bad_all": damaged(draw, EXAMPLE, MU, BAD_ALL),
-        "middle": octets_for(EIGHTS, MU, 10, two)[6:],
+        "middle": octets_for(EIGHTS, MU, 0, 0, 10, two)[6:],
+        "slips": slips(draw),
     }
 
 
 def data_files():
     """The files that the script reads: {name: bytes}."""
-    return {**good_cps(), **refused_cps(), **messages(), "joined": joined(), **lines_of_octets()}
+    return {**good_cps(), **refused_cps(), **messages(), "joined": joined(),
+            "channel": channel_data(), **lines_of_octets()}
 
 
 # The script
@@ -224,7 +264,7 @@ cp
 cp example.cp seven.cp
 send
 send example.cp
-send example.cp mu exact progress exact
+send example.cp mu exact progress control cleardown retrain 1 0
 send example.cp xlaw
 send missing.cp m\tu
 send missing.cp xlaw 12
@@ -232,9 +272,17 @@ send missing.cp mu 12
 send example.cp mu exact faster
 send example.cp mu cold
 send missing.cp mu exact COLD
+send example.cp mu cleardown
+send missing.cp mu exact Retrain
+send example.cp mu 101
+send example.cp mu control 102
+send example.cp mu control -1
+send missing.cp mu 1 control faster
+send example.cp mu control 0000000000000000000000000000000000000000000000000000001
+send missing.cp mu 01 retrain control
 receive example.cp
-receive example.cp mu 1 2 3 4
-receive example.cp mu 20 cold progress cold
+receive example.cp mu 1 2 3 4 5
+receive example.cp mu 20 cold control progress cold
 receive example.cp xlaw
 receive missing.cp b 20
 receive missing.cp mu exact
@@ -242,6 +290,9 @@ receive example.cp mu 20 bytes
 receive example.cp mu 12x
 receive example.cp mu colder
 receive missing.cp mu cold 20 exact
+receive example.cp mu control retrain
+receive missing.cp mu 20 controls
+receive missing.cp mu control
 receive missing.cp mu 20 cold
 receive example.cp mu -1
 receive example.cp mu 1234567890123456789
@@ -540,4 +591,72 @@ send example.cp mu PROGRESS < hello > octets
 receive example.cp mu 20 progress < octets
 receive example.cp mu progress < octets > back
 linear mu progress < eight
+
+# The control channel: the first frame and every 64th after it have six bits fewer
+send example.cp mu control < nothing > octets
+send example.cp mu control < newline > octets
+receive example.cp mu control 1 < octets
+receive example.cp mu control < octets > back
+send example.cp mu control < hello > octets
+linear a < octets
+receive example.cp mu control 20 < octets
+receive example.cp mu COLD Control 20 < octets
+receive example.cp mu 20 < octets > back
+linear a < back
+send example.cp mu control exact < newline > octets
+send example.cp a Exact CONTROL < hello > octets
+receive example.cp a progress control < octets > back
+send example.cp mu control < sixty > octets
+receive example.cp mu control 169 < octets
+send example.cp mu control exact < sixty > octets
+receive example.cp mu control < octets > back
+send full.cp a control cleardown retrain 1 < two > octets
+linear mu < octets
+receive full.cp alaw 30 control < octets
+send upper.cp mu exact Retrain 1 progress control cleardown < two > octets
+send upper.cp mu Retrain 1 progress control < hello > octets
+receive upper.cp mu progress cold control 20 < octets
+receive example.cp mu control < bad_first > back
+linear a < back
+receive example.cp mu cold control < bad_first > back
+receive example.cp mu control < damaged > back
+linear a < back
+receive gaps.cp a cold control < many > back
+
+# Sequences: a whole one in 961 frames, said when its last frame has come
+send example.cp mu control < verse > octets
+receive example.cp mu control 2808 < octets > back
+send seven.cp a control cleardown < verse > octets
+receive seven.cp a 2808 control < octets > back
+send third.cp mu retrain 1 control < verse > octets
+receive third.cp mu CONTROL cold 2808 < octets > back
+send example.cp a 1 CLEARDOWN control 011010011100101101110100011000101110011110000010101101 RETRAIN < verse > octets
+receive example.cp a control < octets > back
+receive example.cp a control 2676 < octets > back
+receive example.cp a control 2677 < octets > back
+receive example.cp a control 0 < octets > none
+receive example.cp a cold < octets > none
+send example.cp mu < verse > octets
+receive example.cp mu control < octets > none
+
+# Two sequences: with a marked frame, with a bit that is not as sent, and with every frame marked
+send seven.cp mu exact control retrain 1101 < channel > octets
+receive seven.cp mu control < octets > back
+receive example.cp mu control < octets > none
+receive lacking.cp mu control cold < octets > none
+receive example.cp a control < octets > none
+receive example.cp mu control < slips > none
+receive example.cp mu control 2600 cold < slips > none
+
+# The data just received, sent on without the channel and with it
+send seven.cp mu exact < back > octets
+receive example.cp mu < octets > none
+send seven.cp mu control < back > octets
+receive lacking.cp mu control < octets > none
+
+# Cleardown with the channel
+send cleardown.cp mu control 1 < nothing > octets
+send cleardown.cp mu control < hello > none
+receive cleardown.cp mu control < nothing > back
+receive cleardown.cp mu control cold < damaged > none
 """

@@ -3,7 +3,8 @@
 
 #include <string.h>
 
-enum { RECORD_BYTES = 105, STATE_BYTES = 6, PLAN_BYTES = 24, HISTORY_BITS = 23, MOST_FRAMES = 1024, MOST_DOUBTFUL = 24 };
+enum { RECORD_BYTES = 105, STATE_BYTES = 21, HEARD_BYTES = 8, PLAN_BYTES = 24 };
+enum { HISTORY_BITS = 23, MOST_FRAMES = 1024, MOST_DOUBTFUL = 24, FRAME_PLACES = 64, SEQUENCE_PLACES = 16 };
 
 /* Numbers in bytes, low byte first */
 
@@ -111,16 +112,21 @@ static void put_field(uint8_t *cp, unsigned at, unsigned value)
     put_number(cp + at / 8, 3, get_number(cp + at / 8, 3) | (uint64_t)value << at % 8);
 }
 
+/* The register after some more bits, the lowest first. */
+static unsigned crc_after(unsigned reg, uint64_t bits, int count)
+{
+    for (int b = 0; b < count; b++) {
+        unsigned differ = (reg ^ (unsigned)(bits >> b)) & 1;
+        reg = reg >> 1 ^ (differ ? 0x8408 : 0);
+    }
+    return reg;
+}
+
 static unsigned crc(const uint8_t *cp, unsigned g)
 {
     unsigned reg = 0xFFFF;
-    for (unsigned at = 18; at < 272 + 136 * g; at += 17) {
-        unsigned word = get_field(cp, at, 16);
-        for (int b = 0; b < 16; b++) {
-            unsigned differ = (reg ^ word >> b) & 1;
-            reg = reg >> 1 ^ (differ ? 0x8408 : 0);
-        }
-    }
+    for (unsigned at = 18; at < 272 + 136 * g; at += 17)
+        reg = crc_after(reg, get_field(cp, at, 16), 16);
     return reg;
 }
 
@@ -202,14 +208,38 @@ static uint64_t reversed(uint64_t history)
     return past;
 }
 
-static void put_state(uint8_t *state, uint64_t past, unsigned sign, unsigned doubtful)
+/* A state. The bits of the sequence, the lowest first, are 64 and 32. */
+struct line {
+    uint64_t past;
+    unsigned sign, doubtful, frame_place, sequence_place, lost;
+    uint64_t low, high;
+};
+
+static void get_state(struct line *l, const uint8_t *state)
 {
-    put_number(state, 4, reversed(past));
-    state[4] = (uint8_t)sign;
-    state[5] = (uint8_t)doubtful;
+    l->past = reversed(get_number(state, 4));
+    l->sign = state[4] != 0;
+    l->doubtful = state[5];
+    l->frame_place = state[6];
+    l->sequence_place = state[7];
+    l->low = get_number(state + 8, 8);
+    l->high = get_number(state + 16, 4);
+    l->lost = state[20] != 0;
 }
 
-/* Refusals 4, 9, 10, 25, 11 to 14, 18 and 15, in this order, and 16 before them for a short record or state. */
+static void put_state(const struct line *l, uint8_t *state)
+{
+    put_number(state, 4, reversed(l->past));
+    state[4] = (uint8_t)l->sign;
+    state[5] = (uint8_t)l->doubtful;
+    state[6] = (uint8_t)l->frame_place;
+    state[7] = (uint8_t)l->sequence_place;
+    put_number(state + 8, 8, l->low);
+    put_number(state + 16, 4, l->high);
+    state[20] = (uint8_t)l->lost;
+}
+
+/* Refusals 4, 9, 10, 25, 11 to 14, 18, 19 and 15, in this order, and 16 before them for a short record or state. */
 static uint32_t call_refusal(struct record *r, const uint8_t *record, size_t record_len,
                              size_t frames, const uint8_t *state, size_t state_len)
 {
@@ -225,14 +255,74 @@ static uint32_t call_refusal(struct record *r, const uint8_t *record, size_t rec
         return 14;
     if (state[5] > MOST_DOUBTFUL)
         return 18;
+    if (state[6] >= FRAME_PLACES || state[7] >= SEQUENCE_PLACES)
+        return 19;
     if (frames > MOST_FRAMES)
         return 15;
     return 0;
 }
 
-static size_t data_bytes(size_t frames, unsigned width)
+/* The bytes of data of some frames from a frame place on: with the channel on the frames at place 0 have six bits fewer. */
+static size_t data_bytes(size_t frames, unsigned k, bool control, unsigned place)
 {
-    return (frames * width + 7) / 8;
+    size_t of_channel = control ? (frames + (place + FRAME_PLACES - 1) % FRAME_PLACES) / FRAME_PLACES : 0;
+    return (frames * (k + 6) - 6 * of_channel + 7) / 8;
+}
+
+/* The control channel. Bits 16 to 77 of a sequence, which its CRC covers, lie in two words. */
+
+static const uint64_t pattern = 0x5FEE, data_bits = ((uint64_t)1 << 54) - 1;
+
+static void start_sequence(struct line *l, uint64_t number)
+{
+    uint64_t covered = (number & 3) | (number >> 2 & data_bits) << 8;
+    l->low = pattern | covered << 16;
+    l->high = covered >> 48 | (uint64_t)crc_after(0xFFFF, covered, 62) << 14;
+    l->lost = 0;
+}
+
+static void tell_sequence(const struct line *l, uint8_t *heard)
+{
+    uint64_t covered = l->low >> 16 | (l->high & 0x3FFF) << 48;
+    uint64_t number = (covered & 3) | covered >> 8 << 2;
+    if (l->lost)
+        heard[0] = 2;
+    else if ((l->low & 0xFFFF) != pattern)
+        heard[0] = 3;
+    else if ((l->high >> 14 & 0xFFFF) != crc_after(0xFFFF, covered, 62))
+        heard[0] = 4;
+    else {
+        heard[0] = 1;
+        put_number(heard + 1, 7, number);
+    }
+}
+
+/* The six control bits to be sent at the sequence place; with the first of them a sequence starts. */
+static unsigned six_to_send(struct line *l, uint64_t number)
+{
+    if (l->sequence_place == 0)
+        start_sequence(l, number);
+    unsigned at = 6 * l->sequence_place;
+    l->sequence_place = (l->sequence_place + 1) % SEQUENCE_PLACES;
+    if (at >= 64)
+        return (unsigned)(l->high >> (at - 64)) & 63;
+    return (unsigned)(l->low >> at | (at > 58 ? l->high << (64 - at) : 0)) & 63;
+}
+
+/* Takes six control bits at the sequence place, zeros after them; `lost` where the frame is marked. */
+static void six_received(struct line *l, unsigned six, bool lost, uint8_t *heard)
+{
+    unsigned at = 6 * l->sequence_place;
+    l->lost = lost || (at > 0 && l->lost);
+    if (at >= 64) {
+        l->high = (l->high & (((uint64_t)1 << (at - 64)) - 1)) | (uint64_t)six << (at - 64);
+    } else {
+        l->low = (l->low & (((uint64_t)1 << at) - 1)) | (uint64_t)six << at;
+        l->high = at > 58 ? six >> (64 - at) : 0;
+    }
+    l->sequence_place = (l->sequence_place + 1) % SEQUENCE_PLACES;
+    if (l->sequence_place == 0)
+        tell_sequence(l, heard);
 }
 
 /* 18 bits at a time: none of them depends on another of them. */
@@ -280,11 +370,12 @@ static void labels_by_octet(uint8_t *table, const struct record *r, unsigned m, 
         }
 }
 
-uint32_t plain_send(const uint8_t *record, size_t record_len, bool a_law, size_t frames,
+uint32_t plain_send(const uint8_t *record, size_t record_len, bool a_law, size_t frames, bool control, uint64_t sequence,
                     const uint8_t *bits, size_t bits_len, uint8_t *octets, size_t octets_len,
                     uint8_t *state, size_t state_len)
 {
     struct record r;
+    struct line l;
     uint8_t tables[6][128];
     const uint8_t *table[6];
     uint64_t size[6];
@@ -292,8 +383,8 @@ uint32_t plain_send(const uint8_t *record, size_t record_len, bool a_law, size_t
     uint32_t refusal = call_refusal(&r, record, record_len, frames, state, state_len);
     if (refusal)
         return refusal;
-    unsigned width = r.drn + 20;
-    if (bits_len < data_bytes(frames, width))
+    unsigned k = r.drn + 14;
+    if (bits_len < data_bytes(frames, k, control, state[6]))
         return 16;
     if (octets_len < 6 * frames)
         return 17;
@@ -306,14 +397,19 @@ uint32_t plain_send(const uint8_t *record, size_t record_len, bool a_law, size_t
         size[i] = mask_size(&r, r.index[i]);
     }
 
-    uint64_t past = reversed(get_number(state, 4)), held = 0;
-    unsigned sign = state[4] != 0, holds = 0;
+    get_state(&l, state);
+    uint64_t past = l.past, held = 0;
+    unsigned sign = l.sign, holds = 0;
     for (size_t n = 0; n < frames; n++) {
+        bool of_channel = control && l.frame_place == 0;
+        unsigned width = of_channel ? k : k + 6;
         for (; holds < width; holds += 8)
             held |= (uint64_t)*bits++ << holds;
         uint64_t line = scramble(&past, held, width);
         held >>= width;
         holds -= width;
+        if (of_channel)
+            line = line << 6 | six_to_send(&l, sequence);
         uint64_t number = line >> 6;
         for (int i = 0; i < 6; i++) {
             uint64_t label = number;
@@ -324,17 +420,23 @@ uint32_t plain_send(const uint8_t *record, size_t record_len, bool a_law, size_t
             sign ^= line >> i & 1;
             *octets++ = table[i][label] & (sign ? 0xFF : 0x7F);
         }
+        if (control)
+            l.frame_place = (l.frame_place + 1) % FRAME_PLACES;
     }
+    l.past = past;
+    l.sign = sign;
     if (frames > 0)
-        put_state(state, past, sign, state[5]);
+        put_state(&l, state);
     return 0;
 }
 
-uint32_t plain_receive(const uint8_t *record, size_t record_len, bool a_law, size_t frames,
+uint32_t plain_receive(const uint8_t *record, size_t record_len, bool a_law, size_t frames, bool control,
                        const uint8_t *octets, size_t octets_len, uint8_t *bits, size_t bits_len,
-                       uint8_t *marks, size_t marks_len, uint8_t *state, size_t state_len)
+                       uint8_t *marks, size_t marks_len, uint8_t *heard, size_t heard_len,
+                       uint8_t *state, size_t state_len)
 {
     struct record r;
+    struct line l;
     uint8_t tables[6][128];
     const uint8_t *table[6];
     uint64_t size[6];
@@ -342,10 +444,10 @@ uint32_t plain_receive(const uint8_t *record, size_t record_len, bool a_law, siz
     uint32_t refusal = call_refusal(&r, record, record_len, frames, state, state_len);
     if (refusal)
         return refusal;
-    unsigned width = r.drn + 20;
+    unsigned k = r.drn + 14;
     if (octets_len < 6 * frames)
         return 16;
-    if (bits_len < data_bytes(frames, width) || marks_len < frames)
+    if (bits_len < data_bytes(frames, k, control, state[6]) || marks_len < frames || heard_len < HEARD_BYTES)
         return 17;
 
     unsigned g = largest_index(&r);
@@ -356,11 +458,14 @@ uint32_t plain_receive(const uint8_t *record, size_t record_len, bool a_law, siz
         size[i] = mask_size(&r, r.index[i]);
     }
 
-    uint64_t past = reversed(get_number(state, 4)), held = 0;
-    unsigned sign = state[4] != 0, holds = 0, doubtful = state[5];
+    memset(heard, 0, HEARD_BYTES);
+    get_state(&l, state);
+    uint64_t past = l.past, held = 0;
+    unsigned sign = l.sign, holds = 0, doubtful = l.doubtful;
     for (size_t n = 0; n < frames; n++) {
+        bool of_channel = control && l.frame_place == 0;
+        unsigned width = of_channel ? k : k + 6, signs = 0;
         uint64_t number = 0, data = 0;
-        unsigned signs = 0;
         uint8_t mark = 0;
         for (int i = 5; i >= 0; i--) {
             uint8_t label = table[i][octets[i] & 127];
@@ -369,15 +474,20 @@ uint32_t plain_receive(const uint8_t *record, size_t record_len, bool a_law, siz
             number = number * size[i] + label;
             signs = signs << 1 | octets[i] >> 7;
         }
-        if (mark == 0 && number >> (r.drn + 14))
+        if (mark == 0 && number >> k)
             mark = 7;
-        uint64_t line = mark ? 0 : ((signs ^ (signs << 1 | sign)) & 63) | number << 6;
+        unsigned six = mark ? 0 : (signs ^ (signs << 1 | sign)) & 63;
+        uint64_t line = mark ? 0 : of_channel ? number : six | number << 6;
         data = descramble(&past, line, width);
         if (mark) {
             data = 0;
             doubtful = MOST_DOUBTFUL;
         } else
             doubtful = doubtful > width ? doubtful - width : 0;
+        if (of_channel)
+            six_received(&l, six, mark != 0, heard);
+        if (control)
+            l.frame_place = (l.frame_place + 1) % FRAME_PLACES;
         sign = octets[5] >> 7;
         octets += 6;
         *marks++ = mark;
@@ -389,8 +499,11 @@ uint32_t plain_receive(const uint8_t *record, size_t record_len, bool a_law, siz
     }
     if (holds)
         *bits = (uint8_t)held;
+    l.past = past;
+    l.sign = sign;
+    l.doubtful = doubtful;
     if (frames > 0)
-        put_state(state, past, sign, doubtful);
+        put_state(&l, state);
     return 0;
 }
 

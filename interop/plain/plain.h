@@ -9,12 +9,13 @@
 uint32_t plain_read_cp(const uint8_t *cp, size_t cp_len, size_t bit_count,
                        uint8_t *record, size_t record_len);
 uint32_t plain_write_cp(const uint8_t *record, size_t record_len, uint8_t *cp, size_t cp_len);
-uint32_t plain_send(const uint8_t *record, size_t record_len, bool a_law, size_t frames,
+uint32_t plain_send(const uint8_t *record, size_t record_len, bool a_law, size_t frames, bool control, uint64_t sequence,
                     const uint8_t *bits, size_t bits_len, uint8_t *octets, size_t octets_len,
                     uint8_t *state, size_t state_len);
-uint32_t plain_receive(const uint8_t *record, size_t record_len, bool a_law, size_t frames,
+uint32_t plain_receive(const uint8_t *record, size_t record_len, bool a_law, size_t frames, bool control,
                        const uint8_t *octets, size_t octets_len, uint8_t *bits, size_t bits_len,
-                       uint8_t *marks, size_t marks_len, uint8_t *state, size_t state_len);
+                       uint8_t *marks, size_t marks_len, uint8_t *heard, size_t heard_len,
+                       uint8_t *state, size_t state_len);
 uint32_t plain_linear(bool a_law, const uint8_t *octets, size_t octets_len,
                       int32_t *samples, size_t samples_len);
 uint32_t plain_send_dil(bool a_law, uint8_t *octets, size_t octets_len);

@@ -120,7 +120,7 @@ fn put_byte(bytes: &mut [u8], i: usize, word: u64)
 }
 
 // Puts the k lowest bytes of a number into those from byte i on.
-fn put_bytes(bytes: &mut [u8], i: usize, k: usize, word: u64)
+pub fn put_bytes(bytes: &mut [u8], i: usize, k: usize, word: u64)
     requires { ⌜ (k ≤ 8) × (i + k ≤ length (now bytes)) ⌝ }
     ensures { λ r. ⌜ now (bytes .exit) ≡ putField (now (bytes .entry)) (8 * i) (8 * k) word ⌝ }
 {

@@ -181,21 +181,21 @@ module _ (p w : ℕ) (low : p < 2 ^ 23) where
       let a = stream (turned p) w in
       ap (λ (x : ℕ). x / 2 ^ n % 2 ^ 23) all-is ∙ in-word a n few ∙ sym (turned-after n (turned p) w)
 
-  -- and after 20 bits or more, which leave three bits of the past at most
-  pub after-frame : (n : ℕ) → 20 ≤ n → n ≤ 48 → bitOr (p / 2 ^ 20) (w * 2 ^ 3 % 2 ^ 64) / 2 ^ (n - 20) % 2 ^ 23
+  -- and after 14 bits or more, which leave nine bits of the past at most
+  pub after-frame : (n : ℕ) → 14 ≤ n → n ≤ 48 → bitOr (p / 2 ^ 14) (w * 2 ^ 9 % 2 ^ 64) / 2 ^ (n - 14) % 2 ^ 23
       ≡ turned (pushAll (turned p) (bitsOf n w))
   after-frame n many few =
       let a = stream (turned p) w in
       let q : a ≡ p + 2 ^ 23 * w = ap (λ (x : ℕ). x + 2 ^ 23 * w) (turned-back p low) in
-      let up : w * 2 ^ 3 % 2 ^ 64 ≡ w % 2 ^ 61 * 2 ^ 3 = omega arith in
-      let few-left : p / 2 ^ 20 < 2 ^ 3 = omega arith in
-      let high : a / 2 ^ 20 ≡ w * 2 ^ 3 + p / 2 ^ 20 = omega arith in
-      let cut : a / 2 ^ 20 % 2 ^ 64 ≡ w % 2 ^ 61 * 2 ^ 3 + p / 2 ^ 20
-      = ap (λ (x : ℕ). x % 2 ^ 64) high ∙ mod-pow-add (w * 2 ^ 3 + p / 2 ^ 20) 61 3
-      ∙ ap₂ (λ (x y : ℕ). x % 2 ^ 61 * 2 ^ 3 + y) (pow-high w 3 few-left) (pow-low w 3 few-left) in
-      let e : 20 + (n - 20) ≡ n = omega arith in
-      ap (λ (x : ℕ). x / 2 ^ (n - 20) % 2 ^ 23) (ap (bitOr (p / 2 ^ 20)) up ∙ or-shifted-r (w % 2 ^ 61) 3 (p / 2 ^ 20) few-left ∙ sym cut)
-      ∙ in-word (a / 2 ^ 20) (n - 20) (omega arith) ∙ ap (λ (x : ℕ). x % 2 ^ 23) (shr-shr a 20 (n - 20) ∙ ap (λ (k : ℕ). a / 2 ^ k) e)
+      let up : w * 2 ^ 9 % 2 ^ 64 ≡ w % 2 ^ 55 * 2 ^ 9 = omega arith in
+      let few-left : p / 2 ^ 14 < 2 ^ 9 = omega arith in
+      let high : a / 2 ^ 14 ≡ w * 2 ^ 9 + p / 2 ^ 14 = omega arith in
+      let cut : a / 2 ^ 14 % 2 ^ 64 ≡ w % 2 ^ 55 * 2 ^ 9 + p / 2 ^ 14
+      = ap (λ (x : ℕ). x % 2 ^ 64) high ∙ mod-pow-add (w * 2 ^ 9 + p / 2 ^ 14) 55 9
+      ∙ ap₂ (λ (x y : ℕ). x % 2 ^ 55 * 2 ^ 9 + y) (pow-high w 9 few-left) (pow-low w 9 few-left) in
+      let e : 14 + (n - 14) ≡ n = omega arith in
+      ap (λ (x : ℕ). x / 2 ^ (n - 14) % 2 ^ 23) (ap (bitOr (p / 2 ^ 14)) up ∙ or-shifted-r (w % 2 ^ 55) 9 (p / 2 ^ 14) few-left ∙ sym cut)
+      ∙ in-word (a / 2 ^ 14) (n - 14) (omega arith) ∙ ap (λ (x : ℕ). x % 2 ^ 23) (shr-shr a 14 (n - 14) ∙ ap (λ (k : ℕ). a / 2 ^ k) e)
       ∙ sym (turned-after n (turned p) w)
 
 pub scrambled : (p d n w q : ℕ) → p < 2 ^ 23 → n ≤ 18 → w ≡ mix d p % 2 ^ n → q ≡ turned (pushAll (turned p) (bitsOf n w))

@@ -26,12 +26,12 @@ pub fn turn(history: u32) -> u32
     past
 }
 
-// The past after a frame of the `count` lowest bits of `line`: three bits of it at most are older than they are.
+// The past after a frame of the `count` lowest bits of `line`: nine bits of it at most are older than they are.
 pub fn past_after(past: u32, line: u64, count: usize) -> u32
-    requires { ⌜ (past < 2 ^ 23) × (20 ≤ count) × (count ≤ 48) ⌝ }
+    requires { ⌜ (past < 2 ^ 23) × (14 ≤ count) × (count ≤ 48) ⌝ }
     ensures { λ r. ⌜ r ≡ turned (pushAll (turned past) (bitsOf count line)) ⌝ }
 {
-    ((((past >> 20) as u64 | (line << 3)) >> (count - 20)) % 0x80_0000) as u32
+    ((((past >> 14) as u64 | (line << 9)) >> (count - 14)) % 0x80_0000) as u32
 }
 
 // At most 18 bits, scrambled: the taps reach none of them.
@@ -48,7 +48,7 @@ fn scramble_some(past: u32, bits: u64, n: usize) -> Passed
 
 // A frame of the `count` lowest bits of `bits`, scrambled: 18 bits a step, of which the last step's are cut.
 pub fn scramble_past(past: u32, bits: u64, count: usize) -> Passed
-    requires { ⌜ (past < 2 ^ 23) × (20 ≤ count) × (count ≤ 48) ⌝ }
+    requires { ⌜ (past < 2 ^ 23) × (14 ≤ count) × (count ≤ 48) ⌝ }
     ensures { λ r. ⌜ Scrambled past bits count (r .bits) (r .past) ⌝ }
 {
     let rest = bits >> 18;
@@ -64,7 +64,7 @@ pub fn scramble_past(past: u32, bits: u64, count: usize) -> Passed
 
 // A frame of the `count` lowest bits of `line`, descrambled.
 pub fn descramble_past(past: u32, line: u64, count: usize) -> Passed
-    requires { ⌜ (past < 2 ^ 23) × (20 ≤ count) × (count ≤ 48) ⌝ }
+    requires { ⌜ (past < 2 ^ 23) × (14 ≤ count) × (count ≤ 48) ⌝ }
     ensures { λ r. ⌜ (r .bits ≡ numberOf (descramble (turned past) (bitsOf count line)))
         × (r .past ≡ turned (pushAll (turned past) (bitsOf count line))) ⌝ }
 {

@@ -91,12 +91,13 @@ fn add_bits(text: &mut [u8], at: usize, bytes: &[u8], marks: &[u8]) -> usize
     )
 }
 
-// Receives three frames of octets from the fresh state on.
+// Receives three frames of octets from the fresh state on, with the control channel off.
 fn receive_three(octets: &[u8], bytes: &mut [u8], marks: &mut [u8]) {
     codec::receive(
         example_record(),
         Law::Mu,
         3,
+        false,
         fresh_state(),
         octets,
         bytes,
@@ -224,6 +225,8 @@ fn add_run(text: &mut [u8], at: usize) -> usize
         example_record(),
         Law::Mu,
         3,
+        false,
+        0,
         fresh_state(),
         &sent,
         &mut octets,

@@ -11,11 +11,12 @@ use lib.ListN.{getD, List·getD-append}
 use Rattle.standard.specs.Lists.{listFrom}
 use Rattle.standard.specs.Bits.{weight, positive, bit, bitAt, field}
 use Rattle.standard.specs.Record.{indexOf, halfOf}
+use Rattle.standard.specs.declared.LineState.{LineState}
 use Rattle.standard.specs.declared.Record.{Record}
 use Rattle.standard.proofs.Lists.{length-listFrom, getD-list, listFrom-is}
 use Rattle.standard.proofs.Bits.{field-bit, field-is, field-number}
 use Rattle.forms.specs.RecordBytes.{recordByte, recordBytes, indexAt, halfAt, recordAt}
-use Rattle.forms.specs.StateBytes.{stateByte, stateBytes, stateAt}
+use Rattle.forms.specs.StateBytes.{stateByte, stateBytes, sequenceByte, stateAt}
 use Rattle.forms.specs.Back.{StateBack, RecordBack}
 use Rattle.forms.proofs.Into.{half-byte}
 
@@ -45,14 +46,40 @@ bytes-hold s p n w e h =
     ∙ byte-bit w (j / 8) (j % 8) (omega arith) ∙ ap (bit w) b)
     h
 
+module _ (st : LineState) (t : List ℕ) where
+  abbrev bytes : List ℕ
+  bytes = stateBytes st ++ t
+
+  state-byte : (k : ℕ) → k < 21 → getD bytes k 0 ≡ stateByte st k
+  unfolding stateBytes
+  state-byte k h = listed-at (stateByte st) 21 t k h
+
+  sequence-byte : (i : ℕ) → i < 12 → getD bytes (8 + i) 0 ≡ getD (st .sequence) i 0
+  unfolding stateByte
+  sequence-byte i h =
+      let e : 8 + i - 8 ≡ i = omega arith in
+      state-byte (8 + i) (omega arith)
+      ∙ rw (
+        le-ltb (8 + i) 4 (omega arith),
+        le-ltb (8 + i) 5 (omega arith),
+        le-ltb (8 + i) 6 (omega arith),
+        le-ltb (8 + i) 7 (omega arith),
+        le-ltb (8 + i) 8 (omega arith),
+        lt-ltb (8 + i) 20 (omega arith),
+        e,
+      ) refl
+
 pub state-back : StateBack
-unfolding stateAt stateBytes stateByte
-state-back st t h =
-    let byte = listed-at (stateByte st) 6 t in
-    let history = bytes-hold (stateBytes st ++ t) 0 4 (st .history)
-    (λ q l. ap (λ (x : ℕ). getD (stateBytes st ++ t) x 0) (zero-add q) ∙ byte q (omega arith) ∙ rw (lt-ltb q 4 l) refl) h in
+unfolding stateAt stateByte
+state-back st t h twelve =
+    let byte = state-byte st t in
+    let history = bytes-hold (bytes st t) 0 4 (st .history)
+    (λ q l. ap (λ (x : ℕ). getD (bytes st t) x 0) (zero-add q) ∙ byte q (omega arith) ∙ rw (lt-ltb q 4 l) refl) h in
+    let sequence : listFrom (sequenceByte (bytes st t)) 0 12 ≡ st .sequence = sym
+    (listFrom-is (sequenceByte (bytes st t)) 0 12 (st .sequence) twelve (λ i l. sym (sequence-byte st t i l))) in
     let sign = ap positive (byte 4 (lit< tt)) ∙ positive-weight (st .sign) in
-    rw (history, sign, byte 5 (lit< tt)) refl
+    let lost = ap positive (byte 20 (lit< tt)) ∙ positive-weight (st .lost) in
+    rw (history, sign, byte 5 (lit< tt), byte 6 (lit< tt), byte 7 (lit< tt), sequence, lost) refl
 
 module _ (r : Record) (t : List ℕ) where
   abbrev s : List ℕ

@@ -1,4 +1,4 @@
--- A record put into bytes: the head byte by byte, the masks word by word; and a plan, word by word. Assumes nothing.
+-- A record put into bytes: the head byte by byte, the masks word by word; a plan, word by word; and what is said. Assumes nothing.
 use mathlib.Core.Path.{_≡_, refl, sym, ap, ap₂, _∙_}
 use Prim.Native.Nat.{ℕ, zero, suc, _+_, _-_, _*_, _/_, _%_, _^_, _≤_, _<_}
 use mathlib.Core.List.{List, [], _∷_, _++_}
@@ -8,7 +8,7 @@ use native.Mathlib.Numerals.{add-one}
 use native.Mathlib.Nat.{add-zero, add-suc}
 use borrow.Author.Tests.{le-ltb}
 use lib.Dec.{lit<}
-use lib.ListN.{length, getD, set, drop, List·getD-eq-default}
+use lib.ListN.{length, getD, set, drop, length-set, List·getD-eq-default}
 use lib.Seq.{drop-at, drop-drop}
 use mir.Val.{boolByte}
 use Rattle.standard.specs.Lists.{listFrom}
@@ -16,6 +16,7 @@ use Rattle.standard.specs.Bits.{bitAt, field, bytesOf}
 use Rattle.standard.specs.Record.{indexOf, halfOf}
 use Rattle.standard.specs.Calls.{over}
 use Rattle.standard.specs.declared.Record.{Record}
+use Rattle.standard.specs.declared.Said.{Said}
 use Rattle.standard.proofs.Lists.{length-listFrom, getD-list}
 use Rattle.standard.proofs.Bits.{field-lt}
 use Rattle.standard.proofs.Filling.{listed-none, listed-more, listed-all}
@@ -24,6 +25,7 @@ use Rattle.bits.specs.PutField.{bitWith, putField}
 use Rattle.bits.proofs.PutField.{length-putField, putField-none, putField-step, putField-byte}
 use Rattle.forms.specs.RecordBytes.{halfByte, recordByte}
 use Rattle.forms.specs.PlanBytes.{planLength, planBytes}
+use Rattle.forms.specs.HeardBytes.{saidKind, saidBits, heardByte, heardLength, heardBytes}
 
 -- ---- bytes of a number in a buffer
 
@@ -134,3 +136,24 @@ plan-put halves sum d a b c h k ea eb ec =
     let fa = ea ∙ word-put ws d d 0 (omega arith) refl k (listed-none (halfByte ws) d) in
     let fb = eb ∙ word-put ws d a 1 (omega arith) la (rw ea (bytes-put d (8 * 0) 64 (getD halves 0 0))) fa in
     listed-all (halfByte ws) d c 24 (ec ∙ word-put ws d b 2 (omega arith) lb (rw eb (bytes-put a (8 * 8) 64 (getD halves 1 0))) fb)
+
+-- ---- what is said: its kind, and then its bits
+
+bytes-set : (d : List ℕ) (k : ℕ) → Bytes d → k < 256 → Bytes (set d 0 k)
+bytes-set [] k b h i = b i
+bytes-set (x ∷ d) k b h zero = h
+bytes-set (x ∷ d) k b h (suc i) = b (suc i)
+
+pub heard-put : (x : Said) (k w : ℕ) (d c : List ℕ) → heardLength ≤ length d → Bytes d → k < 256 → k ≡ saidKind x → w ≡ saidBits x
+    → c ≡ putField (set d 0 k) (8 * 1) (8 * 7) w → c ≡ over (heardBytes x) d
+unfolding heardBytes heardByte
+heard-put x k w d c h b small ek ew p =
+    listed-all (heardByte x) d c 8
+    (p
+    ∙ number-put (heardByte x) d 1 w 7 (set d 0 k) (bytes-set d k b small) (omega arith) (length-set d 0 k) low
+    (listed-more (heardByte x) d d 0 k (listed-none (heardByte x) d) (omega arith) ek))
+  where
+    low : (q : ℕ) → q < 7 → w / 2 ^ (8 * q) % 256 ≡ heardByte x (1 + q)
+    low q l =
+        let e : 1 + q - 1 ≡ q = omega arith in
+        ap (λ (y : ℕ). y / 2 ^ (8 * q) % 256) ew ∙ sym (rw (le-ltb (1 + q) 1 (omega arith), e) refl)

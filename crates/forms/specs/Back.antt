@@ -1,5 +1,5 @@
 -- Bytes there and back: what was put into bytes is what is read from them, whatever stands after it. The premises are what the types say:
--- u32, [u8; 6] and [u64; 12]. Assumes nothing.
+-- u32, [u8; 6], [u64; 12] and [u8; 12]. Assumes nothing.
 use mathlib.Core.Path.{_≡_}
 use Prim.Native.Nat.{ℕ, _^_, _<_}
 use mathlib.Core.List.{List, _++_}
@@ -11,7 +11,7 @@ use Rattle.forms.specs.RecordBytes.{recordBytes, recordAt}
 use Rattle.forms.specs.StateBytes.{stateBytes, stateAt}
 
 abbrev pub StateBack : Type 0
-StateBack = (st : LineState) (t : List ℕ) → st .history < 2 ^ 32 → stateAt (stateBytes st ++ t) ≡ st
+StateBack = (st : LineState) (t : List ℕ) → st .history < 2 ^ 32 → length (st .sequence) ≡ 12 → stateAt (stateBytes st ++ t) ≡ st
 
 abbrev pub RecordBack : Type 0
 RecordBack =

@@ -2,4 +2,5 @@ pub mod Coded
 pub mod RecordBytes
 pub mod StateBytes
 pub mod PlanBytes
+pub mod HeardBytes
 pub mod Back

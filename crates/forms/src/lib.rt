@@ -1,9 +1,10 @@
-// What crosses an interface: an outcome in one number, a record, a line state and a plan in bytes.
+// What crosses an interface: an outcome in one number, a record, a line state, a plan and what is said of a control sequence in bytes.
 use standard::LineState;
 use standard::Outcome;
 use standard::Planned;
 use standard::Record;
 use standard::Refusal;
+use standard::Said;
 ghost use mathlib.Core.Path.{_≡_};
 ghost use Prim.Native.Nat.{_<_, _≤_};
 ghost use mathlib.Core.List.{_++_};
@@ -13,17 +14,21 @@ ghost use Rattle.standard.specs.Calls.{over};
 ghost use Rattle.standard.specs.Refusals.{refusalAnswer, outcomeAnswer};
 ghost use Rattle.forms.specs.Coded.{coded};
 ghost use Rattle.forms.specs.RecordBytes.{recordLength, recordByte, recordBytes, indexAt, halfAt, recordAt};
-ghost use Rattle.forms.specs.StateBytes.{stateLength, stateByte, stateBytes, stateAt};
+ghost use Rattle.forms.specs.StateBytes.{stateLength, stateByte, stateBytes, sequenceByte, stateAt};
 ghost use Rattle.forms.specs.PlanBytes.{planLength, planBytes};
+ghost use Rattle.forms.specs.HeardBytes.{saidKind, saidBits, heardLength, heardBytes};
 
 // The bytes of a record.
 pub const RECORD_BYTES: usize = 105;
 
 // The bytes of a line state.
-pub const STATE_BYTES: usize = 6;
+pub const STATE_BYTES: usize = 21;
 
 // The bytes of a plan.
 pub const PLAN_BYTES: usize = 24;
+
+// The bytes of what is said of a control sequence.
+pub const HEARD_BYTES: usize = 8;
 
 // A refusal in one number.
 fn code_of_refusal(x: Refusal) -> u32
@@ -48,6 +53,7 @@ fn code_of_refusal(x: Refusal) -> u32
         Refusal::InputTooShort => 16,
         Refusal::OutputTooShort => 17,
         Refusal::DoubtfulTooLarge => 18,
+        Refusal::PlaceTooLarge => 19,
         Refusal::IntervalEmpty(i) => 25 + 0x100_0000 * (i as u32),
         Refusal::RateOrSpacingOutside => 26,
         Refusal::NoMask => 27,
@@ -134,7 +140,21 @@ pub fn record_into(r: Record, bytes: &mut [u8])
     }
 }
 
-// The line state in the first 6 bytes.
+// The sequence's bits, from byte 8 on.
+fn sequence_at(bytes: &[u8]) -> [u8; 12]
+    requires { ⌜ stateLength ≤ length (now bytes) ⌝ }
+    ensures { λ x. ⌜ x ≡ listFrom (sequenceByte (now (bytes .entry))) 0 12 ⌝ }
+{
+    let mut sequence = [0u8; 12];
+    let mut i = 0;
+    while i < 12 {
+        sequence[i] = bytes[8 + i];
+        i += 1;
+    }
+    sequence
+}
+
+// The line state in the first 21 bytes.
 pub fn state_from(bytes: &[u8]) -> LineState
     requires { ⌜ stateLength ≤ length (now bytes) ⌝ }
     ensures { λ r. ⌜ r ≡ stateAt (now (bytes .entry)) ⌝ }
@@ -143,6 +163,10 @@ pub fn state_from(bytes: &[u8]) -> LineState
         history: bits::field_at(bytes, 0, 32) as u32,
         sign: bytes[4] != 0,
         doubtful: bytes[5],
+        place: bytes[6],
+        done: bytes[7],
+        sequence: sequence_at(bytes),
+        lost: bytes[20] != 0,
     }
 }
 
@@ -157,10 +181,23 @@ fn state_byte(s: LineState, k: usize) -> u8
     if k < 5 {
         return s.sign as u8;
     }
-    s.doubtful
+    if k < 6 {
+        return s.doubtful;
+    }
+    if k < 7 {
+        return s.place;
+    }
+    if k < 8 {
+        return s.done;
+    }
+    if k < 20 {
+        let sequence = s.sequence;
+        return sequence[k - 8];
+    }
+    s.lost as u8
 }
 
-// Puts a line state into the first 6 bytes; the others stay.
+// Puts a line state into the first 21 bytes; the others stay.
 pub fn state_into(s: LineState, bytes: &mut [u8])
     requires { ⌜ stateLength ≤ length (now bytes) ⌝ }
     ensures { λ x. ⌜ now (bytes .exit) ≡ over (stateBytes s) (now (bytes .entry)) ⌝ }
@@ -181,4 +218,39 @@ pub fn plan_into(p: Planned, bytes: &mut [u8])
     bits::put_word(bytes, 0, mask[0]);
     bits::put_word(bytes, 8, mask[1]);
     bits::put_word(bytes, 16, p.sum);
+}
+
+// The kind of what is said.
+fn kind_of(said: Said) -> u8
+    ensures { λ x. ⌜ x ≡ saidKind said ⌝ }
+{
+    match said {
+        Said::Nothing => 0,
+        Said::Sequence(_) => 1,
+        Said::FrameLost => 2,
+        Said::PatternWrong => 3,
+        Said::CrcWrong => 4,
+    }
+}
+
+// The bits of a sequence heard; 0 where none is.
+fn bits_in(said: Said) -> u64
+    ensures { λ x. ⌜ x ≡ saidBits said ⌝ }
+{
+    match said {
+        Said::Nothing => 0,
+        Said::Sequence(word) => word,
+        Said::FrameLost => 0,
+        Said::PatternWrong => 0,
+        Said::CrcWrong => 0,
+    }
+}
+
+// Puts what is said of a control sequence into the first 8 bytes; the others stay.
+pub fn heard_into(said: Said, bytes: &mut [u8])
+    requires { ⌜ heardLength ≤ length (now bytes) ⌝ }
+    ensures { λ x. ⌜ now (bytes .exit) ≡ over (heardBytes said) (now (bytes .entry)) ⌝ }
+{
+    bytes[0] = kind_of(said);
+    bits::put_bytes(bytes, 1, 7, bits_in(said));
 }

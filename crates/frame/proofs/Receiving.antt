@@ -1,26 +1,27 @@
 -- A frame received: its mark, its number and its bits. Assumes nothing.
 use mathlib.Core.Path.{_≡_, refl, sym, ap, ap₂, _∙_}
-use Prim.Native.Nat.{ℕ, suc, _+_, _*_, _-_, _%_, _^_, _≤_, _<_}
-use mathlib.Core.Bool.{Bool, true, false}
+use Prim.Native.Nat.{ℕ, suc, _+_, _*_, _-_, _/_, _%_, _^_, _≤_, _<_}
+use mathlib.Core.Bool.{Bool, true, false, cond, not, _&&_, _||_}
 use mathlib.Core.List.{List, [], _∷_, _++_}
 use native.Mathlib.Nat.{add-comm, mul-le-mul, le-refl, lt-of-lt-of-le}
 use native.Mathlib.Omega.{arith}
 use borrow.Author.Tests.{le-leb, lt-leb, eq-eqb, ne-eqb, not-false}
 use lib.Bits.{bitOr}
 use lib.Dec.{eqb, leb}
-use lib.ListN.{length, getD, drop, replicate, drop-of-length-le}
+use lib.ListN.{length, getD, take, drop, replicate, length-drop, drop-of-length-le}
 use lib.Pow.{pow-add, pow-mono}
 use lib.Seq.{drop-cons}
 use Rattle.standard.specs.Lists.{listFrom}
 use Rattle.standard.specs.First.{Test, test, first}
-use Rattle.standard.specs.Bits.{numberOf, bitsOf}
+use Rattle.standard.specs.Bits.{bitsIn, bytesOf, nth, numberOf, bitsOf}
 use Rattle.standard.specs.Record.{K, D}
 use Rattle.standard.specs.Scrambler.{pushAll, descramble}
 use Rattle.standard.specs.Constellation.{member, label, sizes}
 use Rattle.standard.specs.Modulus.{number}
 use Rattle.standard.specs.Signs.{signBits}
-use Rattle.standard.specs.Frame.{outsideTest, outsideTests, signAt, ucodeAt, receivedNumber, markTests, mark, good, heardBits, receiveFrame}
-use Rattle.standard.specs.Frame.{doubtfulAfter, receiveNext}
+use Rattle.standard.specs.Frame.{isControl, nextPlace, width, outsideTest, outsideTests, signAt, ucodeAt, receivedNumber, markTests, mark}
+use Rattle.standard.specs.Frame.{good, heardBits, Incoming, heardControl, heardData, receiveFrame, sequenceSoFar, lostSoFar, doubtfulAfter}
+use Rattle.standard.specs.Frame.{receiveNext, sixIn}
 use Rattle.standard.specs.declared.Law.{Law}
 use Rattle.standard.specs.declared.LineState.{LineState}
 use Rattle.standard.specs.declared.Record.{Record}
@@ -30,7 +31,8 @@ use Rattle.standard.proofs.Bits.{numberOf-lt, bits-back}
 use Rattle.standard.proofs.Octets.{ucode-lt}
 use Rattle.standard.proofs.Signs.{length-signBits}
 use Rattle.standard.proofs.Frame.{same-state, length-heardBits}
-use Rattle.standard.proofs.Words.{one-shifted, above-six, number-append, bits-number, zero-number}
+use Rattle.standard.proofs.Words.{one-shifted, above-six, number-append, bits-ext, number-take, number-drop, bits-number, zero-number}
+use Rattle.bits.proofs.Bits.{low-bit}
 use Rattle.mapping.specs.declared.Mapping.{Mapping}
 use Rattle.mapping.specs.Tables.{mappingOf, labelOrNone, labelTables}
 use Rattle.mapping.proofs.Tables.{number-le, label-in, none-outside, label-inside}
@@ -141,70 +143,103 @@ module _ (r : Record) (l : Law) (os : List ℕ) where
   unfolding first
   mark-good e h = passed e ∙ rw (lt-leb (2 ^ K r) (receivedNumber r l os) h)
 
-  -- received in the carried state x
-  module _ (x : Carried) where
-    abbrev st : LineState
-    st = stateOf x
+  -- ---- the bits on the line, where the last sign was g
 
-    -- ---- a marked frame
+  module _ (g : Bool) where
+    pub marked-bits : 0 < mark r l os → 0 ≡ numberOf (heardBits r l g os)
+    unfolding heardBits
+    marked-bits h = rw (ne-eqb (mark r l os) 0 (λ (e : mark r l os ≡ 0). omega arith)) (sym (zero-number (D r)))
 
-    module _ (h : 0 < mark r l os) where
-      bad : good r l os ≡ false
-      bad = ne-eqb (mark r l os) 0 (λ (e : mark r l os ≡ 0). omega arith)
+    -- as code joins them: the sign bits s below the number n
+    pub good-bits : mark r l os ≡ 0 → (s n : ℕ) → s ≡ numberOf (signBits g (listFrom (signAt os) 0 6)) → n ≡ receivedNumber r l os
+        → receivedNumber r l os < 2 ^ K r → r .drn ≤ 28 → bitOr s (n * 64 % 2 ^ 64) ≡ numberOf (heardBits r l g os)
+    unfolding heardBits
+    good-bits e s n es en fits rate =
+        let six = signBits g (listFrom (signAt os) 0 6) in
+        let long : length six ≡ 6 = length-signBits g (listFrom (signAt os) 0 6) ∙ length-listFrom (signAt os) 0 6 in
+        let low : s < 64 = rw es (rw long at (numberOf-lt six)) in
+        let high : n < 2 ^ 42 = rw en (lt-of-lt-of-le fits (pow-mono {i = K r} {j = 42} (omega arith))) in
+        rw (eq-eqb (mark r l os) 0 e)
+        (above-six s n low (omega arith) ∙ ap₂ (λ (x y : ℕ). x + 64 * y) es (en ∙ sym (bits-number (K r) (receivedNumber r l os) fits))
+        ∙ sym (number-append six (bitsOf (K r) (receivedNumber r l os))
+        ∙ ap (λ (k : ℕ). numberOf six + 2 ^ k * numberOf (bitsOf (K r) (receivedNumber r l os))) long))
 
-      pub marked-next : (m : Mapping) → m ≡ mappingOf r → (y : Carried) → y .past ≡ turned (pushAll (st .history) (replicate (m .d) false))
-          → y .sign ≡ signAt os 5 → y .doubtful ≡ doubtfulAfter (m .d) false (x .doubtful)
-          → stateOf y ≡ receiveNext r l st os
-      unfolding receiveNext heardBits
-      marked-next m em y ep es ed =
-          let pushed = from-past (st .history) (y .past) (replicate (m .d) false) (turned-lt (x .past)) ep in
-          let zeros = ap (λ (z : Mapping). pushAll (st .history) (replicate (z .d) false)) em in
-          let doubtful = ed ∙ ap (λ (z : Mapping). doubtfulAfter (z .d) false (x .doubtful)) em in
-          rw bad (same-state (stateOf y) _ (pushed ∙ zeros) es doubtful)
+  -- ---- a frame received in the carried state x with the sequence's bits bs; h is the number of its bits on the line
 
-      pub marked-number : 0 ≡ numberOf (receiveFrame r l st os)
+  module _ (m : Mapping) (em : m ≡ mappingOf r) (x : Carried) (on : Bool) (bs : List ℕ) (h : ℕ)
+      (eh : h ≡ numberOf (heardBits r l (x .sign) os)) (ctl : Bool) (et : ctl ≡ isControl on (x .place)) where
+    abbrev pub at : LineState
+    at = stateOf x bs
+
+    abbrev pub y : Incoming
+    y = sixIn on os
+
+    abbrev hs : List Bool
+    hs = heardBits r l (x .sign) os
+
+    long-hs : length hs ≡ D r
+    long-hs = length-heardBits r l (x .sign) os
+
+    -- the bits that carry data, as code takes them
+    split : (b : Bool) (k d : ℕ) → k ≡ width r b → d ≡ cond b (h / 64) h → bitsOf k d ≡ cond b (drop 6 hs) hs
+    split true k d ek ed =
+        let long : length (drop 6 hs) ≡ K r = omega (arith, length-drop 6 hs, long-hs) in
+        ap₂ bitsOf ek (ed ∙ ap (λ (z : ℕ). z / 64) eh ∙ number-drop 6 hs) ∙ bits-back (K r) (drop 6 hs) long
+    split false k d ek ed = ap₂ bitsOf ek (ed ∙ eh) ∙ bits-back (D r) hs long-hs
+
+    -- k is the frame's data bits
+    module _ (k : ℕ) (ek : k ≡ cond ctl (m .k) (m .d)) where
+      width-is : k ≡ width r ctl
+      width-is = ek ∙ ap (λ (z : Mapping). cond ctl (z .k) (z .d)) em
+
+      pub data-bits : (d : ℕ) → d ≡ cond ctl (h / 64) h → bitsOf k d ≡ heardData r l at y
+      unfolding heardData
+      data-bits d ed = split ctl k d width-is ed ∙ ap (λ (b : Bool). cond b (drop 6 hs) hs) et
+
+      pub received-bits : (isGood : Bool) → isGood ≡ good r l os → (w : ℕ) → w ≡ numberOf (descramble (at .history) (heardData r l at y))
+          → cond isGood w 0 ≡ numberOf (receiveFrame r l at y)
       unfolding receiveFrame
-      marked-number = rw bad (sym (zero-number (D r)))
+      received-bits isGood eg w ew = ap₂ (λ (b : Bool) (z : ℕ). cond b z 0) eg ew ∙ go (good r l os)
+        where
+          go : (b : Bool)
+              → cond b (numberOf (descramble (at .history) (heardData r l at y))) 0
+              ≡ numberOf (cond b (descramble (at .history) (heardData r l at y)) (replicate (width r (isControl on (x .place))) false))
+          go true = refl
+          go false = sym (zero-number (width r (isControl on (x .place))))
 
-    -- ---- a good frame
+      -- the six control bits, as code keeps them
+      six-kept : (b : Bool) → cond b (bytesOf 12 (nth (bitsIn (6 * x .done) bs ++ bitsOf 6 (h % 64)))) bs
+          ≡ cond b (bytesOf 12 (nth (bitsIn (6 * x .done) bs ++ cond b (take 6 hs) []))) bs
+      six-kept true =
+          ap (λ (z : List Bool). bytesOf 12 (nth (bitsIn (6 * x .done) bs ++ z)))
+          (bits-ext 6 (h % 64) h (low-bit 6 h) ∙ ap (bitsOf 6) eh ∙ number-take 6 hs (omega (arith, long-hs)))
+      six-kept false = refl
 
-    module _ (e : mark r l os ≡ 0) (fits : receivedNumber r l os < 2 ^ K r) where
-      fine : good r l os ≡ true
-      fine = eq-eqb (mark r l os) 0 e
+      lost-is : (b c isGood lost : Bool)
+          → cond b (not isGood || (lost && not c)) lost ≡ cond b (not isGood || (lost && not (b && c))) lost
+      lost-is true c isGood lost = refl
+      lost-is false c isGood lost = refl
 
-      abbrev sixBits : List Bool
-      sixBits = signBits (st .sign) (listFrom (signAt os) 0 6)
-
-      heard-is : heardBits r l (st .sign) os ≡ sixBits ++ bitsOf (K r) (receivedNumber r l os)
-      unfolding heardBits
-      heard-is = rw fine
-
-      six-long : length sixBits ≡ 6
-      six-long = length-signBits (st .sign) (listFrom (signAt os) 0 6) ∙ length-listFrom (signAt os) 0 6
-
-      -- the bits on the line, as code joins them: the sign bits s below the number n
-      pub heard-bits : (m : Mapping) → m ≡ mappingOf r → (s n : ℕ) → s ≡ numberOf sixBits → n ≡ receivedNumber r l os → r .drn ≤ 28
-          → bitsOf (m .d) (bitOr s (n * 64 % 2 ^ 64)) ≡ heardBits r l (st .sign) os
-      heard-bits m em s n es en rate =
-          let low : s < 64 = rw es (rw six-long at (numberOf-lt sixBits)) in
-          let high : n < 2 ^ 42 = rw en (lt-of-lt-of-le fits (pow-mono {i = K r} {j = 42} (omega arith))) in
-          let q : bitOr s (n * 64 % 2 ^ 64) ≡ numberOf (heardBits r l (st .sign) os) =
-          above-six s n low high ∙ ap₂ (λ (x y : ℕ). x + 64 * y) es (en ∙ sym (bits-number (K r) (receivedNumber r l os) fits))
-          ∙ sym (ap numberOf heard-is ∙ number-append sixBits (bitsOf (K r) (receivedNumber r l os))
-          ∙ ap (λ (k : ℕ). numberOf sixBits + 2 ^ k * numberOf (bitsOf (K r) (receivedNumber r l os))) six-long) in
-          ap₂ (λ (y : Mapping) (x : ℕ). bitsOf (y .d) x) em q ∙ bits-back (D r) (heardBits r l (st .sign) os)
-          (length-heardBits r l (st .sign) os)
-
-      pub heard-data : descramble (st .history) (heardBits r l (st .sign) os) ≡ receiveFrame r l st os
-      unfolding receiveFrame
-      heard-data = rw fine
-
-      pub heard-next : (m : Mapping) → m ≡ mappingOf r → (y : Carried)
-          → y .past ≡ turned (pushAll (st .history) (heardBits r l (st .sign) os)) → y .sign ≡ signAt os 5
-          → y .doubtful ≡ doubtfulAfter (m .d) true (x .doubtful)
-          → stateOf y ≡ receiveNext r l st os
-      unfolding receiveNext
-      heard-next m em y ep es ed =
-          let doubtful = ed ∙ ap (λ (z : Mapping). doubtfulAfter (z .d) true (x .doubtful)) em
-          ∙ ap (λ (b : Bool). doubtfulAfter (D r) b (x .doubtful)) (sym fine) in
-          same-state (stateOf y) _ (from-past (st .history) (y .past) (heardBits r l (st .sign) os) (turned-lt (x .past)) ep) es doubtful
+      pub received-state : (z : Carried) (cs : List ℕ) (isGood : Bool) → isGood ≡ good r l os
+          → z .past ≡ turned (pushAll (at .history) (heardData r l at y)) → z .sign ≡ signAt os 5
+          → z .doubtful ≡ doubtfulAfter k isGood (x .doubtful) → z .place ≡ nextPlace on (x .place)
+          → z .done ≡ cond ctl ((x .done + 1) % 16) (x .done)
+          → z .lost ≡ cond ctl (not isGood || (x .lost && not (eqb (x .done) 0))) (x .lost)
+          → cs ≡ cond ctl (bytesOf 12 (nth (bitsIn (6 * x .done) bs ++ bitsOf 6 (h % 64)))) bs
+          → stateOf z cs ≡ receiveNext r l at y
+      unfolding receiveNext lostSoFar sequenceSoFar heardControl
+      received-state z cs isGood eg ep es ed el en eb ec =
+          same-state (stateOf z cs) _
+          (record {
+            history = from-past (at .history) (z .past) (heardData r l at y) (turned-lt (x .past)) ep;
+            sign = es;
+            doubtful = ed ∙ ap₂ (λ (w : ℕ) (b : Bool). doubtfulAfter w b (x .doubtful)) (width-is ∙ ap (width r) et) eg;
+            place = el;
+            done = en ∙ ap (λ (b : Bool). cond b ((x .done + 1) % 16) (x .done)) et;
+            sequence =
+                ec ∙ six-kept ctl
+                ∙ ap (λ (b : Bool). cond b (bytesOf 12 (nth (bitsIn (6 * x .done) bs ++ cond b (take 6 hs) []))) bs) et;
+            lost =
+                eb ∙ lost-is ctl (eqb (x .done) 0) isGood (x .lost)
+                ∙ ap₂ (λ (b c : Bool). cond b (not c || (x .lost && not (b && eqb (x .done) 0))) (x .lost)) et eg;
+          })

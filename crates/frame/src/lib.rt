@@ -1,10 +1,20 @@
-// One data frame each way: D = K + 6 data bits, held as a number with bit 0 first in time, and six octets.
+// One data frame each way: D = K + 6 data bits, K in a control frame, held as a number with bit 0 first in time, and six octets.
 // K, D, the sizes and the tables are those that a call draws up of its record.
+mod channel;
+
 use bits::bit_of;
 use bits::wide;
+use channel::bits_to_send;
+use channel::data_of;
+pub use channel::is_control;
+use channel::joined_bits;
+use channel::keep;
+use channel::lost_after;
+use channel::next_done;
+use channel::next_place;
+pub use channel::width_of;
 use coding::modulus::labels_of;
 use coding::scrambler::descramble_past;
-use coding::scrambler::past_after;
 use coding::scrambler::scramble_past;
 use coding::scrambler::turn;
 use coding::signs::sign_bits_of;
@@ -16,29 +26,31 @@ use pcm::ucode_of;
 use standard::Law;
 use standard::LineState;
 ghost use mathlib.Core.Path.{_≡_};
-ghost use mathlib.Core.Bool.{false};
+ghost use mathlib.Core.Bool.{cond};
 ghost use Prim.Native.Nat.{ℕ, _≤_, _<_, _^_};
-ghost use lib.ListN.{length, getD, replicate};
+ghost use lib.ListN.{length, getD};
 ghost use Rattle.standard.specs.Lists.{listFrom};
 ghost use Rattle.standard.specs.First.{first};
-ghost use Rattle.standard.specs.Bits.{numberOf, bitsOf};
-ghost use Rattle.standard.specs.Record.{D};
-ghost use Rattle.standard.specs.Scrambler.{pushAll};
+ghost use Rattle.standard.specs.Bits.{numberOf};
 ghost use Rattle.standard.specs.Modulus.{number as numberIn};
-ghost use Rattle.standard.specs.Frame.{sendFrame, sendNext, mark as markOf, receiveFrame, doubtfulAfter, receiveNext};
+ghost use Rattle.standard.specs.Frame.{signAt, mark as markOf, heardBits, sixIn, doubtfulAfter};
 ghost use Rattle.standard.specs.declared.Record.{Record};
-ghost use Rattle.coding.specs.Past.{turned};
-ghost use Rattle.frame.specs.Parts.{stateOf, Sendable, Receivable, octetIn, labelIn, noneTest};
+ghost use Rattle.frame.specs.Parts.{stateOf, Bounded, outgoing, Sendable, SentAs, Legible, Receivable, ReceivedAs, octetIn, labelIn};
+ghost use Rattle.frame.specs.Parts.{noneTest};
 
-// A line state on its way through a call: the last sign, its history in the order of time, and how many coming data bits are doubtful.
-// In this order the compiler keeps the three apart.
+// A line state on its way through a call, but for the sequence's bits: the last sign, its history in the order of time, how many coming data
+// bits are doubtful, the frame place, whether a frame of the sequence was lost, and the sequence place. In this order the compiler keeps
+// them apart.
 pub struct Carried {
     pub sign: bool,
     pub past: u32,
     pub doubtful: u8,
+    pub place: u32,
+    pub lost: bool,
+    pub done: u32,
 }
 
-// A frame received: its mark, the state left, and its D data bits.
+// A frame received: its mark, the state left but for the sequence's bits, and its data bits.
 pub struct FrameReceived {
     pub mark: u8,
     pub line: Carried,
@@ -48,23 +60,38 @@ pub struct FrameReceived {
 // A line state, to be carried.
 pub fn carry(state: LineState) -> Carried
     requires { ⌜ state .history < 2 ^ 23 ⌝ }
-    ensures { λ x. ⌜ (stateOf x ≡ state) × (x .past < 2 ^ 23) ⌝ }
+    ensures { λ x. ⌜ (stateOf x (state .sequence) ≡ state) × (x .past < 2 ^ 23) ⌝ }
 {
     Carried {
         past: turn(state.history),
         sign: state.sign,
         doubtful: state.doubtful,
+        place: state.place as u32,
+        done: state.done as u32,
+        lost: state.lost,
     }
 }
 
-// The line state that is carried.
-pub fn state_of(carried: Carried) -> LineState
-    ensures { λ x. ⌜ x ≡ stateOf carried ⌝ }
+// The sequence's bits of a line state, in an array of the call's own.
+pub fn own_bits(sequence: [u8; 12]) -> [u8; 12]
+    ensures { λ x. ⌜ (x ≡ sequence) × (length x ≡ 12) ⌝ }
+{
+    sequence
+}
+
+// The line state that is carried, with the sequence's bits.
+pub fn state_of(carried: Carried, sequence: [u8; 12]) -> LineState
+    requires { ⌜ Bounded carried ⌝ }
+    ensures { λ x. ⌜ x ≡ stateOf carried sequence ⌝ }
 {
     LineState {
         history: turn(carried.past),
         sign: carried.sign,
         doubtful: carried.doubtful,
+        place: carried.place as u8,
+        done: carried.done as u8,
+        sequence: sequence,
+        lost: carried.lost,
     }
 }
 
@@ -82,30 +109,40 @@ fn write_octets(law: Law, points: &[[u8; 128]; 6], labels: [u64; 6], signs: u64,
     }
 }
 
-// Sends the D lowest bits of `bits` as six octets, and answers the state left. `inverses` has the sizes' reciprocals.
+// Sends a frame's data bits, the lowest of `bits`, as six octets, and answers the state left. `inverses` has the sizes' reciprocals. The
+// channel is on or off, and `word` is for a sequence that starts with the frame.
 pub fn send_frame(
     law: Law,
     mapping: Mapping,
     inverses: [u64; 6],
     points: &[[u8; 128]; 6],
+    on: bool,
+    word: u64,
     line: Carried,
+    sequence: &mut [u8],
     bits: u64,
     octets: &mut [u8],
 ) -> Carried
-    requires { ⌜ ((r : Record) × Sendable r mapping inverses (now points) line) × (length (now octets) ≡ 6) ⌝ }
+    requires { ⌜ ((r : Record) × Sendable r mapping inverses (now points) line) × (length (now sequence) ≡ 12) × (length (now octets) ≡ 6) ⌝ }
     ensures { λ x. ⌜ ((r : Record) → Sendable r mapping inverses (now (points .entry)) line
-        → (now (octets .exit) ≡ sendFrame r law (stateOf line) (bitsOf (D r) bits))
-        × (stateOf x ≡ sendNext (stateOf line) (bitsOf (D r) bits)) × (x .past < 2 ^ 23)) ⌝ }
+        → SentAs r law (outgoing r on word line bits) line (now (sequence .entry)) x (now (sequence .exit)) (now (octets .exit))) ⌝ }
 {
     let sizes = mapping.sizes;
-    let sent = scramble_past(line.past, bits, mapping.d);
-    let signs = signs_of(line.sign, sent.bits);
-    let labels = labels_of(sizes, inverses, sent.bits >> 6);
+    let control = is_control(on, line.place);
+    let starts = control & (line.done == 0);
+    let sent = scramble_past(line.past, bits, width_of(mapping, control));
+    let six = bits_to_send(control, starts, word, line.done, sequence);
+    let together = joined_bits(control, six, sent.bits);
+    let signs = signs_of(line.sign, together);
+    let labels = labels_of(sizes, inverses, together >> 6);
     write_octets(law, points, labels, signs, octets);
     Carried {
         past: sent.past,
         sign: bit_of(signs, 5),
         doubtful: line.doubtful,
+        place: next_place(on, line.place),
+        done: next_done(control, line.done),
+        lost: line.lost & !starts,
     }
 }
 
@@ -152,6 +189,16 @@ fn number_of(sizes: [u64; 6], found: [u8; 6]) -> u64
     number
 }
 
+// The data bits of a frame where it is good, zeros where it is marked.
+fn if_good(good: bool, bits: u64) -> u64
+    ensures { λ x. ⌜ x ≡ cond good bits 0 ⌝ }
+{
+    if good {
+        return bits;
+    }
+    0
+}
+
 // How many coming data bits are doubtful after a frame of so many bits, good or marked, where so many are before it.
 pub fn doubtful_after(width: usize, good: bool, before: u8) -> u8
     ensures { λ x. ⌜ x ≡ doubtfulAfter width good before ⌝ }
@@ -165,63 +212,77 @@ pub fn doubtful_after(width: usize, good: bool, before: u8) -> u8
     before - width as u8
 }
 
-// A marked frame: zero data bits, and as many zeros into the history. `sign` is the sign of its sixth octet.
-fn marked_frame(width: usize, line: Carried, sign: bool, mark: u8) -> FrameReceived
-    requires { ⌜ (20 ≤ width) × (width ≤ 48) × (line .past < 2 ^ 23) ⌝ }
-    ensures { λ x. ⌜ (x .mark ≡ mark) × (x .line .past ≡ turned (pushAll (stateOf line .history) (replicate width false)))
-        × (x .line .sign ≡ sign) × (x .line .doubtful ≡ doubtfulAfter width false (line .doubtful)) × (x .bits ≡ 0) ⌝ }
+// What six octets give: the mark, and the D bits on the line, zeros where the frame is marked.
+pub struct Heard {
+    pub mark: u8,
+    pub bits: u64,
+}
+
+// The mark of six octets, and their D bits on the line; `last` is the sign before them, and `signs` are theirs.
+fn hear(
+    law: Law,
+    mapping: Mapping,
+    labels: &[[u8; 128]; 6],
+    last: bool,
+    signs: u64,
+    octets: &[u8],
+) -> Heard
+    requires { ⌜ ((r : Record) × Legible r mapping (now labels)) × (length (now octets) ≡ 6)
+        × (signs ≡ numberOf (listFrom (signAt (now octets)) 0 6)) ⌝ }
+    ensures { λ x. ⌜ ((r : Record) → Legible r mapping (now (labels .entry))
+        → (x .mark ≡ markOf r law (now (octets .entry))) × (x .bits ≡ numberOf (heardBits r law last (now (octets .entry))))) ⌝ }
 {
-    let zeros = past_after(line.past, 0, width);
-    let left = Carried {
-        past: zeros,
-        sign: sign,
-        doubtful: doubtful_after(width, false, line.doubtful),
-    };
-    FrameReceived {
-        mark: mark,
-        line: left,
-        bits: 0,
+    let sizes = mapping.sizes;
+    let found = labels_in(law, labels, octets);
+    let outside = mark_outside(found);
+    if outside != 0 {
+        return Heard {
+            mark: outside,
+            bits: 0,
+        };
+    }
+    let number = number_of(sizes, found);
+    if (1u64 << mapping.k) <= number {
+        return Heard { mark: 7, bits: 0 };
+    }
+    Heard {
+        mark: 0,
+        bits: sign_bits_of(last, signs) | (number << 6),
     }
 }
 
-// Receives six octets: the mark, the state left, and D data bits.
+// Receives six octets: the mark, the state left, and the frame's data bits. The channel is on or off.
 pub fn receive_frame(
     law: Law,
     mapping: Mapping,
     labels: &[[u8; 128]; 6],
+    on: bool,
     line: Carried,
+    sequence: &mut [u8],
     octets: &[u8],
 ) -> FrameReceived
-    requires { ⌜ ((r : Record) × Receivable r mapping (now labels) line) × (length (now octets) ≡ 6) ⌝ }
+    requires { ⌜ ((r : Record) × Receivable r mapping (now labels) line) × (length (now sequence) ≡ 12) × (length (now octets) ≡ 6) ⌝ }
     ensures { λ x. ⌜ ((r : Record) → Receivable r mapping (now (labels .entry)) line
-        → (x .mark ≡ markOf r law (now (octets .entry))) × (stateOf (x .line) ≡ receiveNext r law (stateOf line) (now (octets .entry)))
-        × (x .line .past < 2 ^ 23)
-        × (x .bits ≡ numberOf (receiveFrame r law (stateOf line) (now (octets .entry))))) ⌝ }
+        → ReceivedAs r law (sixIn on (now (octets .entry))) line (now (sequence .entry)) x (now (sequence .exit))) ⌝ }
 {
-    let k = mapping.k;
-    let width = mapping.d;
-    let sizes = mapping.sizes;
+    let control = is_control(on, line.place);
+    let width = width_of(mapping, control);
     let signs = signs_in(octets);
-    let sign = bit_of(signs, 5);
-    let found = labels_in(law, labels, octets);
-    let outside = mark_outside(found);
-    if outside != 0 {
-        return marked_frame(width, line, sign, outside);
-    }
-    let number = number_of(sizes, found);
-    if (1u64 << k) <= number {
-        return marked_frame(width, line, sign, 7);
-    }
-    let heard = sign_bits_of(line.sign, signs) | (number << 6);
-    let plain = descramble_past(line.past, heard, width);
+    let heard = hear(law, mapping, labels, line.sign, signs, octets);
+    let good = heard.mark == 0;
+    let plain = descramble_past(line.past, data_of(control, heard.bits), width);
+    keep(control, line.done, heard.bits % 64, sequence);
     let left = Carried {
         past: plain.past,
-        sign: sign,
-        doubtful: doubtful_after(width, true, line.doubtful),
+        sign: bit_of(signs, 5),
+        doubtful: doubtful_after(width, good, line.doubtful),
+        place: next_place(on, line.place),
+        done: next_done(control, line.done),
+        lost: lost_after(control, line.done == 0, good, line.lost),
     };
     FrameReceived {
-        mark: 0,
+        mark: heard.mark,
         line: left,
-        bits: plain.bits,
+        bits: if_good(good, plain.bits),
     }
 }

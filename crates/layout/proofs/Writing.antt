@@ -10,12 +10,11 @@ use lib.ListN.{length, replicate, length-replicate, getD-replicate}
 use Rattle.standard.specs.Lists.{listFrom}
 use Rattle.standard.specs.Bits.{bit, bitAt, field, bytesOf}
 use Rattle.standard.specs.Record.{halfOf, topIndex, inMask}
-use Rattle.standard.specs.Crc.{crcBelow}
 use Rattle.standard.specs.Cp.{gamma, cpByteCount, runPlace, Field, put, covers, bitIn, headFields, maskRun, maskFields, cpBody}
-use Rattle.standard.specs.Cp.{crcField, cpBit, cpBytes}
+use Rattle.standard.specs.Cp.{startBit, cpCrc, crcField, cpBit, cpBytes}
 use Rattle.standard.specs.declared.Record.{Record}
-use Rattle.standard.proofs.Bits.{field-ext, field-number, bytesOf-ext, bitAt-bytes}
-use Rattle.standard.proofs.Crc.{crcBelow-ext}
+use Rattle.standard.proofs.Bits.{field-ext, field-number, bytesOf-ext, bitAt-own}
+use Rattle.standard.proofs.Crc.{crcOver-ext}
 use Rattle.standard.proofs.Cp.{bitIn-left, covers-no, cp-crc}
 use Rattle.standard.proofs.Lists.{listFrom-is, listFrom-ext}
 use Rattle.bits.specs.PutField.{putField}
@@ -123,30 +122,28 @@ module _ (r : Record) where
       let q : 273 + gamma g + (n - (273 + gamma g)) ≡ n = omega arith in
       ap (cpBit r) (sym q) ∙ cp-crc r (n - (273 + gamma g)) (omega arith))
 
-  crc-value : (n : ℕ) → 272 + gamma g ≤ 8 * n → crcBelow (bitAt (bytesOf n (bitIn (cpBody r)))) (272 + gamma g)
-      ≡ crcBelow (bitIn (cpBody r)) (272 + gamma g)
+  crc-value : (n : ℕ) → 272 + gamma g ≤ 8 * n → cpCrc (bitAt (bytesOf n (bitIn (cpBody r)))) g ≡ cpCrc (bitIn (cpBody r)) g
+  unfolding cpCrc
   crc-value n h =
-      crcBelow-ext (bitAt (bytesOf n (bitIn (cpBody r)))) (bitIn (cpBody r)) (272 + gamma g)
-      (λ k l. ap (λ (s : List ℕ). bitAt s k) (sym (append-nil (bytesOf n (bitIn (cpBody r)))))
-      ∙ bitAt-bytes n (bitIn (cpBody r)) [] k (omega arith))
+      crcOver-ext startBit (bitAt (bytesOf n (bitIn (cpBody r)))) (bitIn (cpBody r)) 18 (254 + gamma g)
+      (λ k l. bitAt-own n (bitIn (cpBody r)) (18 + k) (omega arith))
 
-  pub crc-put : (s : List ℕ) (x : ℕ) → s ≡ bytesOf (cpByteCount g) (bitIn (cpBody r)) → x ≡ crcBelow (bitAt s) (272 + gamma g)
+  pub crc-put : (s : List ℕ) (x : ℕ) → s ≡ bytesOf (cpByteCount g) (bitIn (cpBody r)) → x ≡ cpCrc (bitAt s) g
       → putField s (273 + gamma g) 16 x ≡ cpBytes r
   unfolding cpBytes crcField
   crc-put s x e q =
-      let v : x ≡ crcBelow (bitIn (cpBody r)) (272 + gamma g)
-      = q ∙ ap (λ (t : List ℕ). crcBelow (bitAt t) (272 + gamma g)) e ∙ crc-value (cpByteCount g) (omega arith) in
+      let v : x ≡ cpCrc (bitIn (cpBody r)) g = q ∙ ap (λ (t : List ℕ). cpCrc (bitAt t) g) e ∙ crc-value (cpByteCount g) (omega arith) in
       ap₂ (λ (t : List ℕ) (y : ℕ). putField t (273 + gamma g) 16 y) e v ∙ put-one (cpByteCount g) (crcField r) (cpBody r)
       ∙ bytesOf-ext (cpByteCount g) (bitIn (crcField r ∷ cpBody r)) (cpBit r) (λ n l. crc-on-top n)
 
 -- the steps of the writer: zeroed, masks, head, CRC
 pub cp-put : (r : Record) (g x : ℕ) (s s₁ s₂ s₃ s₄ : List ℕ) → length s ≡ cpByteCount (topIndex r) → g ≡ topIndex r
     → s₁ ≡ replicate (length s) 0 → s₂ ≡ putFields s₁ (maskFields r) → s₃ ≡ putFields s₂ (headFields r)
-    → x ≡ crcBelow (bitAt s₃) (272 + gamma g) → s₄ ≡ putField s₃ (273 + gamma g) 16 x → s₄ ≡ cpBytes r
+    → x ≡ cpCrc (bitAt s₃) g → s₄ ≡ putField s₃ (273 + gamma g) 16 x → s₄ ≡ cpBytes r
 cp-put r g x s s₁ s₂ s₃ s₄ n q e₁ e₂ e₃ c e₄ =
     let body : s₃ ≡ bytesOf (cpByteCount (topIndex r)) (bitIn (cpBody r))
     = e₃ ∙ ap (λ (t : List ℕ). putFields t (headFields r))
     (e₂ ∙ ap (λ (t : List ℕ). putFields t (maskFields r)) (e₁ ∙ ap (λ (k : ℕ). replicate k 0) n))
     ∙ body-put (cpByteCount (topIndex r)) r in
     e₄ ∙ ap (λ (k : ℕ). putField s₃ (273 + gamma k) 16 x) q ∙ crc-put r s₃ x body
-    (c ∙ ap (λ (k : ℕ). crcBelow (bitAt s₃) (272 + gamma k)) q)
+    (c ∙ ap (cpCrc (bitAt s₃)) q)

@@ -2,7 +2,7 @@
 // fill no byte wait for more.
 use crate::first_of;
 use crate::keep;
-use crate::width_of;
+use crate::place_of;
 use console::Ends;
 use console::Meter;
 use console::Trouble;
@@ -12,15 +12,23 @@ use console::is_over;
 use console::is_well;
 use console::moved;
 use console::read_some;
+use console::tell;
 use console::tell_text;
 use frame::doubtful_after;
+use standard::FramesRead;
 use standard::Law;
 use standard::LineState;
 use standard::Record;
+use standard::Said;
 use std::num::wrapping_add_u64;
 use std::num::wrapping_sub_u64;
 use streams::Report;
+use streams::bits_in;
+use streams::ending;
+use streams::put_digits;
+use streams::width_at;
 use words::add_choice;
+use words::add_name;
 ghost use mathlib.Core.Path.{_≡_};
 ghost use Prim.Native.Nat.{_*_, _<_, _≤_};
 ghost use lib.ListN.{length};
@@ -121,26 +129,104 @@ fn note(e: Ends, before: Told, width: u64, coming: u8, mark: u8) -> Told {
     }
 }
 
-// Notes the marks of frames of so many bits, before which so many coming ones are doubtful.
-fn note_all(e: Ends, before: Told, width: usize, coming: u8, marks: &[u8]) -> Told {
-    let mut t = before;
-    let mut doubtful = coming;
+// Says the control sequence heard, which ends with this frame.
+fn say_heard(e: Ends, frame: u64, word: u64) {
+    let mut text = [0u8; 256];
+    let mut digits = [0u8; 54];
+    put_digits(word, &mut digits);
+    let at = add_choice(
+        &mut text,
+        0,
+        b"v91: frame #: control sequence heard: cleardown no, retrain no, data |\
+        v91: frame #: control sequence heard: cleardown yes, retrain no, data |\
+        v91: frame #: control sequence heard: cleardown no, retrain yes, data |\
+        v91: frame #: control sequence heard: cleardown yes, retrain yes, data |",
+        (word % 4) as usize,
+        frame,
+        0,
+        0,
+    );
+    let at = add_name(&mut text, at, b"@\n", &digits);
+    tell_text(e, &text, at);
+}
+
+// Says what the receiver says of the control sequence that ends with this frame.
+fn say_sequence(e: Ends, frame: u64, said: Said) -> bool {
+    match said {
+        Said::Nothing => true,
+        Said::Sequence(word) => {
+            say_heard(e, frame, word);
+            true
+        }
+        Said::FrameLost => tell(
+            e,
+            b"frame #: control sequence lost, a frame of it is marked",
+            frame,
+            0,
+        ),
+        Said::PatternWrong => tell(e, b"frame #: control sequence wrong, its pattern", frame, 0),
+        Said::CrcWrong => tell(e, b"frame #: control sequence wrong, its CRC", frame, 0),
+    }
+}
+
+// Whether a control sequence ended, and something is said of it.
+fn is_said(said: Said) -> bool {
+    match said {
+        Said::Nothing => false,
+        Said::Sequence(_) => true,
+        Said::FrameLost => true,
+        Said::PatternWrong => true,
+        Said::CrcWrong => true,
+    }
+}
+
+// Tells of the control sequence that ends with the last of the frames so far, where one does.
+fn end_sequence(e: Ends, t: Told, said: Said, ends: bool) -> Told {
+    if !ends | !is_said(said) {
+        return t;
+    }
+    let report = t.report;
+    let meter = closed(e, t.meter);
+    say_sequence(e, wrapping_sub_u64(report.frames, 1), said);
+    Told {
+        report,
+        told: t.told,
+        untold: t.untold,
+        meter,
+    }
+}
+
+// The frame of a call that begins in this line state with which the control sequence ends.
+fn ending_of(state: LineState) -> usize {
+    ending(place_of(state), state.done % 16)
+}
+
+// Notes the marks of the frames of a call, which began in a line state, and what it says of the control sequence that ends in it.
+fn note_all(
+    e: Ends,
+    r: Record,
+    control: bool,
+    begun: Told,
+    before: LineState,
+    said: Said,
+    marks: &[u8],
+) -> Told
+    requires { ⌜ (r .drn ≤ 28) × (length (now marks) ≤ 1024) ⌝ }
+{
+    let last = ending_of(before);
+    let place = place_of(before);
+    let mut t = begun;
+    let mut doubtful = before.doubtful;
     let mut i = 0;
     while i < marks.len() {
         let mark = marks[i];
+        let width = width_at(r, control, place, i);
         t = note(e, t, width as u64, doubtful, mark);
+        t = end_sequence(e, t, said, i == last);
         doubtful = doubtful_after(width, mark == 0, doubtful);
         i += 1;
     }
     t
-}
-
-// The bits of so many frames.
-fn bits_of(frames: usize, width: usize) -> usize
-    requires { ⌜ (frames ≤ 1024) × (width ≤ 48) ⌝ }
-    ensures { λ n. ⌜ n ≤ 49152 ⌝ }
-{
-    frames * width
 }
 
 // How many of so many bytes are still wanted.
@@ -194,33 +280,56 @@ fn hand_over(e: Ends, bytes: &[u8], at: usize, count: usize) -> Trouble
 // the last eight bits of the frames before.
 fn after_frames(
     e: Ends,
+    r: Record,
+    control: bool,
     s: Stream,
-    state: LineState,
-    frames: usize,
-    width: usize,
+    done: FramesRead,
     bytes: &[u8],
     marks: &[u8],
 ) -> Stream
-    requires { ⌜ (s .held < 8) × (frames ≤ 1024) × (width ≤ 48) × (length (now marks) ≡ 1024) ⌝ }
+    requires { ⌜ (r .drn ≤ 28) × (s .held < 8) × (length (now marks) ≤ 1024) ⌝ }
     ensures { λ x. ⌜ x .held < 8 ⌝ }
 {
     let held = s.held;
     let before = s.state;
-    let bits = bits_of(frames, width);
+    let bits = bits_in(r, control, place_of(before), marks.len());
     let total = held + bits;
     let count = at_most(total / 8, s.wanted);
     let trouble = hand_over(e, bytes, 8 - held, count);
     let wanted = s.wanted - count as u64;
+    let state = done.state;
+    let said = done.said;
     Stream {
         state,
         waiting: s.waiting,
         last: streams::byte_at(bytes, bits),
         held: total % 8,
-        told: note_all(e, s.told, width, before.doubtful, &marks[0..frames]),
+        told: note_all(e, r, control, s.told, before, said, marks),
         wanted,
         more: (wanted != 0) & is_well(trouble),
         trouble,
     }
+}
+
+// After a call: nothing more where it was refused.
+fn after_call(
+    e: Ends,
+    r: Record,
+    control: bool,
+    s: Stream,
+    done: FramesRead,
+    bytes: &[u8],
+    marks: &[u8],
+) -> Stream
+    requires { ⌜ (r .drn ≤ 28) × (s .held < 8) × (length (now marks) ≤ 1024) ⌝ }
+    ensures { λ x. ⌜ x .held < 8 ⌝ }
+{
+    let outcome = done.outcome;
+    let code = forms::code_of(outcome);
+    if code != 0 {
+        return ended(s, Trouble::Refused(code));
+    }
+    after_frames(e, r, control, s, done, bytes, marks)
 }
 
 // Receives frames from the front of the buffer into all but the first of `bytes`, and hands them over.
@@ -228,34 +337,55 @@ fn receive_frames(
     e: Ends,
     r: Record,
     law: Law,
+    control: bool,
     s: Stream,
-    frames: usize,
     octets: &[u8],
     bytes: &mut [u8],
     marks: &mut [u8],
 ) -> Stream
-    requires { ⌜ (s .held < 8) × (frames ≤ 1024) × (0 < length (now bytes)) × (length (now marks) ≡ 1024) ⌝ }
+    requires { ⌜ (r .drn ≤ 28) × (s .held < 8) × (0 < length (now bytes)) × (length (now marks) ≤ 1024) ⌝ }
     ensures { λ x. ⌜ x .held < 8 ⌝ }
 {
-    let done = codec::receive(r, law, frames, s.state, octets, &mut bytes[1..], marks);
-    let outcome = done.outcome;
-    let code = forms::code_of(outcome);
-    if code != 0 {
-        return ended(s, Trouble::Refused(code));
-    }
-    let state = done.state;
-    after_frames(e, s, state, frames, width_of(r), bytes, marks)
+    let frames = marks.len();
+    let done = codec::receive(
+        r,
+        law,
+        frames,
+        control,
+        s.state,
+        octets,
+        &mut bytes[1..],
+        marks,
+    );
+    after_call(e, r, control, s, done, bytes, marks)
 }
 
 // The same, with room for 1,024 frames.
-fn receive_up_to(e: Ends, r: Record, law: Law, s: Stream, frames: usize, octets: &[u8]) -> Stream
-    requires { ⌜ (s .held < 8) × (frames ≤ 1024) ⌝ }
+fn receive_up_to(
+    e: Ends,
+    r: Record,
+    law: Law,
+    control: bool,
+    s: Stream,
+    frames: usize,
+    octets: &[u8],
+) -> Stream
+    requires { ⌜ (r .drn ≤ 28) × (s .held < 8) × (frames ≤ 1024) ⌝ }
     ensures { λ x. ⌜ x .held < 8 ⌝ }
 {
     let mut bytes = [0u8; 6145];
     bytes[0] = s.last;
     let mut marks = [0u8; 1024];
-    receive_frames(e, r, law, s, frames, octets, &mut bytes, &mut marks)
+    receive_frames(
+        e,
+        r,
+        law,
+        control,
+        s,
+        octets,
+        &mut bytes,
+        &mut marks[0..frames],
+    )
 }
 
 // With so many octets that wait at the front of the buffer, after so many more were read.
@@ -286,8 +416,16 @@ fn waits(e: Ends, shows: bool, s: Stream, waiting: usize, count: usize) -> Strea
 }
 
 // Receives what the next read gives.
-fn receive_some(e: Ends, r: Record, law: Law, shows: bool, s: Stream, octets: &mut [u8]) -> Stream
-    requires { ⌜ (s .waiting < 6) × (s .held < 8) × (length (now octets) ≡ 6144) ⌝ }
+fn receive_some(
+    e: Ends,
+    r: Record,
+    law: Law,
+    control: bool,
+    shows: bool,
+    s: Stream,
+    octets: &mut [u8],
+) -> Stream
+    requires { ⌜ (r .drn ≤ 28) × (s .waiting < 6) × (s .held < 8) × (length (now octets) ≡ 6144) ⌝ }
     ensures { λ x. ⌜ (x .waiting < 6) × (x .held < 8) ⌝ }
 {
     let waiting = s.waiting;
@@ -299,7 +437,7 @@ fn receive_some(e: Ends, r: Record, law: Law, shows: bool, s: Stream, octets: &m
     }
     let have = waiting + count;
     let left = have % 6;
-    let next = receive_up_to(e, r, law, s, have / 6, octets);
+    let next = receive_up_to(e, r, law, control, s, have / 6, octets);
     keep(octets, have - left, have);
     waits(e, shows, next, left, count)
 }
@@ -335,14 +473,23 @@ fn begin(state: LineState, wanted: u64) -> Stream
 
 // Receives call after call until the input ends or enough was received. A proved loop has to end, so this one counts down from a number
 // that no run uses up.
-fn receive_all(e: Ends, r: Record, law: Law, state: LineState, wanted: u64, shows: bool) -> Stream
+fn receive_all(
+    e: Ends,
+    r: Record,
+    law: Law,
+    control: bool,
+    state: LineState,
+    wanted: u64,
+    shows: bool,
+) -> Stream
+    requires { ⌜ r .drn ≤ 28 ⌝ }
     ensures { λ x. ⌜ (x .waiting < 6) × (x .held < 8) ⌝ }
 {
     let mut octets = [0u8; 6144];
     let mut s = begin(state, wanted);
     let mut turns = u64::MAX;
     while turns > 0 && s.more {
-        s = receive_some(e, r, law, shows, s, &mut octets);
+        s = receive_some(e, r, law, control, shows, s, &mut octets);
         turns -= 1;
     }
     s
@@ -396,17 +543,23 @@ fn finish(e: Ends, s: Stream) -> Received
     sum_up(e, s, held, last)
 }
 
-// Receives the input to the output, frame after frame from a line state on, up to so many bytes of data.
+// Receives the input to the output, frame after frame from a line state on, up to so many bytes of data. No record that was read has a drn
+// above 28.
 pub fn receive_stream(
     e: Ends,
     r: Record,
     law: Law,
+    control: bool,
     state: LineState,
     wanted: u64,
     shows: bool,
 ) -> Received
     ensures { λ x. ⌜ (x .waiting < 6) × (x .held < 8) ⌝ }
 {
-    let s = receive_all(e, r, law, state, wanted, shows);
+    if 28 < r.drn {
+        let s = ended(begin(state, wanted), Trouble::Refused(9));
+        return finish(e, s);
+    }
+    let s = receive_all(e, r, law, control, state, wanted, shows);
     finish(e, s)
 }

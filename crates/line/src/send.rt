@@ -1,7 +1,8 @@
-// Data of any length to the line. Eight frames have D whole bytes of data, so calls join on whole bytes.
+// Data of any length to the line. Calls join on any bit: whole frames of what a read gives are sent at once, and the bits that fill no
+// frame wait for more.
 use crate::first_of;
 use crate::keep;
-use crate::width_of;
+use crate::place_of;
 use console::Ends;
 use console::Meter;
 use console::Trouble;
@@ -11,21 +12,31 @@ use console::is_over;
 use console::is_well;
 use console::moved;
 use console::read_some;
+use standard::FramesDone;
 use standard::Law;
 use standard::LineState;
 use standard::Record;
 use std::num::wrapping_add_u64;
+use streams::bits_in;
+use streams::cut_into;
 use streams::fresh_state;
 ghost use mathlib.Core.Path.{_≡_};
-ghost use Prim.Native.Nat.{_*_, _<_, _≤_};
+ghost use Prim.Native.Nat.{_+_, _*_, _<_, _≤_};
 ghost use lib.ListN.{length};
+ghost use Rattle.standard.specs.Frame.{callBits};
 
-// A stream between two calls: the line state, the frames so far, the bytes at the front of the buffer that wait for more, whether the
-// input goes on, and what ended it before its end.
+// The control channel: whether it is on, and the 56 bits of the sequences that it sends.
+pub struct Channel {
+    pub on: bool,
+    pub word: u64,
+}
+
+// A stream between two calls: the line state, the frames so far, the bits that wait for more, which are the last ones of the bytes at the
+// front of the buffer, whether the input goes on, and what ended it before its end.
 struct Stream {
     state: LineState,
     frames: u64,
-    waiting: usize,
+    left: usize,
     meter: Meter,
     more: bool,
     trouble: Trouble,
@@ -37,12 +48,8 @@ struct Step {
     trouble: Trouble,
 }
 
-// Sends frames from the front of the buffer.
-fn send_frames(e: Ends, r: Record, law: Law, state: LineState, frames: usize, bytes: &[u8]) -> Step
-    requires { ⌜ frames ≤ 1024 ⌝ }
-{
-    let mut octets = [0u8; 6144];
-    let done = codec::send(r, law, frames, state, bytes, &mut octets);
+// Writes the octets of frames, unless they were refused.
+fn write_octets(e: Ends, done: FramesDone, octets: &[u8]) -> Step {
     let state = done.state;
     let outcome = done.outcome;
     let code = forms::code_of(outcome);
@@ -52,8 +59,7 @@ fn send_frames(e: Ends, r: Record, law: Law, state: LineState, frames: usize, by
             trouble: Trouble::Refused(code),
         };
     }
-    let end = 6 * frames;
-    if !io::write_all(e.output, &octets[0..end]) {
+    if !io::write_all(e.output, octets) {
         return Step {
             state,
             trouble: Trouble::Writing(os::errno()),
@@ -65,87 +71,191 @@ fn send_frames(e: Ends, r: Record, law: Law, state: LineState, frames: usize, by
     }
 }
 
-// How many eights of frames so many bytes fill, D bytes each.
-fn eights_in(bytes: usize, width: usize) -> usize
-    requires { ⌜ (1 ≤ width) × (bytes ≤ 128 * width) ⌝ }
-    ensures { λ n. ⌜ n ≤ 128 ⌝ }
+// Sends frames of the data that begins at bit `at` of the bytes, by way of `shifted`; zero bits follow their end.
+fn send_from(
+    e: Ends,
+    r: Record,
+    law: Law,
+    channel: Channel,
+    state: LineState,
+    frames: usize,
+    bytes: &[u8],
+    at: usize,
+    shifted: &mut [u8],
+) -> Step
+    requires { ⌜ (frames ≤ 1024) × (at < 8) × (length (now shifted) ≤ 6150) ⌝ }
 {
-    bytes / width
+    streams::copy_bits(bytes, at, shifted);
+    let mut octets = [0u8; 6144];
+    let done = codec::send(
+        r,
+        law,
+        frames,
+        channel.on,
+        channel.word,
+        state,
+        shifted,
+        &mut octets,
+    );
+    let end = 6 * frames;
+    write_octets(e, done, &octets[0..end])
 }
 
-// How many bytes behind them fill no eight frames.
-fn left_in(bytes: usize, width: usize) -> usize
-    requires { ⌜ (1 ≤ width) × (width ≤ 48) ⌝ }
-    ensures { λ n. ⌜ (n < 48) × (n ≤ bytes) ⌝ }
+// The same, with room for the bytes and a frame.
+fn send_frames(
+    e: Ends,
+    r: Record,
+    law: Law,
+    channel: Channel,
+    state: LineState,
+    frames: usize,
+    bytes: &[u8],
+    at: usize,
+) -> Step
+    requires { ⌜ (frames ≤ 1024) × (at < 8) × (length (now bytes) ≤ 6144) ⌝ }
 {
-    bytes % width
+    let mut shifted = [0u8; 6150];
+    let end = bytes.len() + 6;
+    send_from(
+        e,
+        r,
+        law,
+        channel,
+        state,
+        frames,
+        bytes,
+        at,
+        &mut shifted[0..end],
+    )
 }
 
 // A stream whose input has ended, or could not be read.
 fn ended(s: Stream, trouble: Trouble) -> Stream
-    ensures { λ x. ⌜ x .waiting ≡ s .waiting ⌝ }
+    ensures { λ x. ⌜ x .left ≡ s .left ⌝ }
 {
     let state = s.state;
     let meter = s.meter;
     Stream {
         state,
         frames: s.frames,
-        waiting: s.waiting,
+        left: s.left,
         meter,
         more: false,
         trouble,
     }
 }
 
-// Sends what the next read gives; the bytes that do not fill eight frames wait at the front of the buffer.
-fn send_some(e: Ends, r: Record, law: Law, shows: bool, s: Stream, bytes: &mut [u8]) -> Stream
-    requires { ⌜ (s .waiting < 48) × (length (now bytes) ≡ 6144) ⌝ }
-    ensures { λ x. ⌜ x .waiting < 48 ⌝ }
+// The bytes that so many bits at their end stand in.
+fn bytes_for(bits: usize) -> usize
+    requires { ⌜ bits < 48 ⌝ }
+    ensures { λ n. ⌜ (bits ≤ 8 * n) × (8 * n < bits + 8) ⌝ }
 {
-    let width = width_of(r);
-    let room = 128 * width;
-    let waiting = s.waiting;
-    let got = read_some(e, bytes, waiting, room);
-    let count = got.count;
-    if count == 0 {
-        let trouble = got.trouble;
-        return ended(s, trouble);
-    }
-    let have = waiting + count;
-    let frames = 8 * eights_in(have, width);
-    let sent = send_frames(e, r, law, s.state, frames, bytes);
-    let left = left_in(have, width);
-    keep(bytes, have - left, have);
+    (bits + 7) / 8
+}
+
+// After so many bytes were read and so many frames sent: so many bits wait.
+fn after_step(
+    e: Ends,
+    shows: bool,
+    s: Stream,
+    step: Step,
+    count: usize,
+    frames: usize,
+    left: usize,
+) -> Stream
+    ensures { λ x. ⌜ x .left ≡ left ⌝ }
+{
     let frames = wrapping_add_u64(s.frames, frames as u64);
     let meter = moved(e, shows, s.meter, count, frames);
-    let state = sent.state;
-    let trouble = sent.trouble;
+    let state = step.state;
+    let trouble = step.trouble;
     Stream {
         state,
         frames,
-        waiting: left,
+        left,
         meter,
         more: is_well(trouble),
         trouble,
     }
 }
 
+// Sends whole frames from this frame place on, with so many bytes that were read behind those that wait; the bits that fill no frame wait
+// at the front of the buffer.
+fn send_read(
+    e: Ends,
+    r: Record,
+    law: Law,
+    channel: Channel,
+    shows: bool,
+    s: Stream,
+    place: u8,
+    count: usize,
+    bytes: &mut [u8],
+) -> Stream
+    requires { ⌜ (r .drn ≤ 28) × (s .left < 48) × (place < 64) × (s .left + 8 * count ≤ callBits r (channel .on) place 1024)
+        × (s .left + 8 * count ≤ 49152) × (length (now bytes) ≡ 6144) ⌝ }
+    ensures { λ x. ⌜ x .left < 48 ⌝ }
+{
+    let before = s.left;
+    let waiting = bytes_for(before);
+    let have = waiting + count;
+    let cut = cut_into(r, channel.on, place, before + 8 * count, true);
+    let frames = cut.frames;
+    let left = cut.left;
+    let step = send_frames(
+        e,
+        r,
+        law,
+        channel,
+        s.state,
+        frames,
+        &bytes[0..have],
+        8 * waiting - before,
+    );
+    keep(bytes, have - bytes_for(left), have);
+    after_step(e, shows, s, step, count, frames, left)
+}
+
+// Sends whole frames of what the next read gives.
+fn send_some(
+    e: Ends,
+    r: Record,
+    law: Law,
+    channel: Channel,
+    shows: bool,
+    s: Stream,
+    bytes: &mut [u8],
+) -> Stream
+    requires { ⌜ (r .drn ≤ 28) × (s .left < 48) × (length (now bytes) ≡ 6144) ⌝ }
+    ensures { λ x. ⌜ x .left < 48 ⌝ }
+{
+    let place = place_of(s.state);
+    let room = bits_in(r, channel.on, place, 1024) / 8;
+    let got = read_some(e, bytes, bytes_for(s.left), room);
+    let count = got.count;
+    if count == 0 {
+        let trouble = got.trouble;
+        return ended(s, trouble);
+    }
+    send_read(e, r, law, channel, shows, s, place, count, bytes)
+}
+
 // Sends call after call until the input ends. A proved loop has to end, so this one counts down from a number that no run uses up.
-fn send_all(e: Ends, r: Record, law: Law, shows: bool, bytes: &mut [u8]) -> Stream
-    requires { ⌜ length (now bytes) ≡ 6144 ⌝ }
-    ensures { λ x. ⌜ x .waiting < 48 ⌝ }
+fn send_all(e: Ends, r: Record, law: Law, channel: Channel, shows: bool, bytes: &mut [u8]) -> Stream
+    requires { ⌜ (r .drn ≤ 28) × (length (now bytes) ≡ 6144) ⌝ }
+    ensures { λ x. ⌜ x .left < 48 ⌝ }
 {
     let mut s = Stream {
         state: fresh_state(),
         frames: 0,
-        waiting: 0,
+        left: 0,
         meter: begun(),
         more: true,
         trouble: Trouble::Nothing,
     };
     let mut turns = u64::MAX;
     while turns > 0 && s.more {
-        s = send_some(e, r, law, shows, s, bytes);
+        s = send_some(e, r, law, channel, shows, s, bytes);
         turns -= 1;
     }
     s
@@ -160,38 +270,71 @@ pub struct Sent {
     pub trouble: Trouble,
 }
 
-// Sends the bytes that wait; whole frames alone, or a last one that is filled with zero bits.
-fn send_rest(e: Ends, r: Record, law: Law, exact: bool, s: Stream, bytes: &[u8]) -> Sent
-    requires { ⌜ s .waiting < 48 ⌝ }
+// Sends the bits that wait, which fill no frame, with zero bits behind them; with `exact` they are left.
+fn send_rest(
+    e: Ends,
+    r: Record,
+    law: Law,
+    channel: Channel,
+    exact: bool,
+    s: Stream,
+    bytes: &[u8],
+) -> Sent
+    requires { ⌜ (r .drn ≤ 28) × (s .left < 48) × (length (now bytes) ≡ 6144) ⌝ }
     ensures { λ x. ⌜ (x .left < 48) × (x .padding < 48) ⌝ }
 {
-    let cut = streams::cut_into(s.waiting, width_of(r), exact);
-    let step = send_frames(e, r, law, s.state, cut.frames, bytes);
-    let before = s.trouble;
+    let before = s.left;
+    let waiting = bytes_for(before);
+    let cut = cut_into(r, channel.on, place_of(s.state), before, exact);
+    let frames = cut.frames;
+    let left = cut.left;
+    let padding = cut.padding;
+    let step = send_frames(
+        e,
+        r,
+        law,
+        channel,
+        s.state,
+        frames,
+        &bytes[0..waiting],
+        8 * waiting - before,
+    );
+    let trouble = s.trouble;
     let last = step.trouble;
     Sent {
-        frames: wrapping_add_u64(s.frames, cut.frames as u64),
-        left: cut.left,
-        padding: cut.padding,
-        trouble: first_of(before, last),
+        frames: wrapping_add_u64(s.frames, frames as u64),
+        left,
+        padding,
+        trouble: first_of(trouble, last),
     }
 }
 
-// Sends the input to the output, frame after frame; whole frames alone, or a last one that is filled with zero bits.
-pub fn send_stream(e: Ends, r: Record, law: Law, exact: bool, shows: bool) -> Sent
+// Nothing more is sent, because of this trouble.
+fn stopped(frames: u64, trouble: Trouble) -> Sent
+    ensures { λ x. ⌜ (x .left ≡ 0) × (x .padding ≡ 0) ⌝ }
+{
+    Sent {
+        frames,
+        left: 0,
+        padding: 0,
+        trouble,
+    }
+}
+
+// Sends the input to the output, frame after frame; whole frames alone, or a last one that is filled with zero bits. No record that was
+// read has a drn above 28.
+pub fn send_stream(e: Ends, r: Record, law: Law, channel: Channel, exact: bool, shows: bool) -> Sent
     ensures { λ x. ⌜ (x .left < 48) × (x .padding < 48) ⌝ }
 {
+    if 28 < r.drn {
+        return stopped(0, Trouble::Refused(9));
+    }
     let mut bytes = [0u8; 6144];
-    let s = send_all(e, r, law, shows, &mut bytes);
+    let s = send_all(e, r, law, channel, shows, &mut bytes);
     closed(e, s.meter);
     let trouble = s.trouble;
     if is_over(trouble) {
-        return Sent {
-            frames: s.frames,
-            left: 0,
-            padding: 0,
-            trouble,
-        };
+        return stopped(s.frames, trouble);
     }
-    send_rest(e, r, law, exact, s, &bytes)
+    send_rest(e, r, law, channel, exact, s, &bytes)
 }

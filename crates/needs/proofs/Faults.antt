@@ -1,16 +1,18 @@
 -- What a call has passed before its buffers are looked at, and the tests of the buffers after them. Assumes nothing.
 use mathlib.Core.Path.{_≡_, refl, sym, ap, _∙_}
-use Prim.Native.Nat.{ℕ, _≤_}
+use Prim.Native.Nat.{ℕ, _≤_, _<_}
 use mathlib.Core.List.{List, _++_}
+use native.Mathlib.Omega.{arith}
 use borrow.Author.Tests.{ltb-false}
 use Rattle.standard.specs.First.{Answer, Test, first}
-use Rattle.standard.specs.Refusals.{refusalAnswer, outcomeAnswer, drnTooLarge, tooManyFrames, rateTests, recordTests}
+use Rattle.standard.specs.Refusals.{refusalAnswer, outcomeAnswer, drnTooLarge, placeTooLarge, tooManyFrames, rateTests, recordTests}
 use Rattle.standard.specs.Refusals.{lineTests}
 use Rattle.standard.specs.declared.LineState.{LineState}
 use Rattle.standard.specs.declared.Outcome.{Outcome}
 use Rattle.standard.specs.declared.Outcome.the-variants.{Done, Refused}
 use Rattle.standard.specs.declared.Record.{Record}
 use Rattle.standard.specs.declared.Refusal.{Refusal}
+use Rattle.standard.proofs.Lists.{or-none}
 use Rattle.standard.proofs.First.{None, none-split}
 use Rattle.standard.proofs.Stages.{refused-not, done-none, stage-hit, stage-past}
 use Rattle.standard.proofs.Refusals.{line-numbered}
@@ -27,7 +29,13 @@ module _ (r : Record) (st : LineState) (n : ℕ) (o : Outcome) (q : o ≡ Done)
 
   pub frames-passed : n ≤ 1024
   unfolding lineTests tooManyFrames
-  frames-passed = ltb-false 1024 n (none-split (recordTests r) (lineTests r st n) none .1 .1 .1 .1 .0)
+  frames-passed = ltb-false 1024 n (none-split (recordTests r) (lineTests r st n) none .1 .1 .1 .1 .1 .0)
+
+  pub place-passed : st .place < 64
+  unfolding lineTests placeTooLarge
+  place-passed =
+      let small = ltb-false 63 (st .place) (or-none _ _ (none-split (recordTests r) (lineTests r st n) none .1 .1 .1 .1 .0) .0) in
+      omega arith
 
 -- its tests, and then those of the buffers, which are looked at where it is not refused
 pub then-buffers : (r : Record) (st : LineState) (n : ℕ) (o : Outcome) {a : Answer} (us vs : List Test)

@@ -1,11 +1,11 @@
 -- A call's tests before its buffers are looked at, and after. Assumes nothing.
 use mathlib.Core.Path.{_≡_}
 use Prim.Native.Nat.{ℕ, _*_}
-use mathlib.Core.Bool.{cond}
+use mathlib.Core.Bool.{Bool, cond}
 use mathlib.Core.List.{_++_}
 use Rattle.standard.specs.First.{Answer, first}
 use Rattle.standard.specs.Bits.{bytesFor}
-use Rattle.standard.specs.Frame.{dataBits}
+use Rattle.standard.specs.Frame.{callBits}
 use Rattle.standard.specs.Refusals.{outcomeAnswer, recordTests, lineTests}
 use Rattle.standard.specs.Calls.{accepted}
 use Rattle.standard.specs.declared.LineState.{LineState}
@@ -20,9 +20,9 @@ whereDone Done k = k
 whereDone (Refused x) k = 0
 
 -- x is what a call of n frames is refused with before its buffers are looked at, and what it needs where it is not
-pub record NeededBy (r : Record) (st : LineState) (n : ℕ) (x : Needed) : Type 0 where
+pub record NeededBy (r : Record) (st : LineState) (on : Bool) (n : ℕ) (x : Needed) : Type 0 where
   pub tested : outcomeAnswer (x .fault) ≡ first (recordTests r ++ lineTests r st n)
-  pub bytes : x .bytes ≡ whereDone (x .fault) (bytesFor (dataBits r n))
+  pub bytes : x .bytes ≡ whereDone (x .fault) (bytesFor (callBits r on (st .place) n))
   pub octets : x .octets ≡ whereDone (x .fault) (6 * n)
 
 -- the answer of a stage of tests, or where it refuses nothing, that of the next

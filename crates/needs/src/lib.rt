@@ -4,22 +4,36 @@ use standard::Outcome;
 use standard::Record;
 use standard::Refusal;
 ghost use mathlib.Core.Path.{_≡_};
-ghost use Prim.Native.Nat.{_*_, _≤_};
+ghost use mathlib.Core.Bool.{cond};
+ghost use Prim.Native.Nat.{_+_, _/_, _%_, _<_, _≤_};
 ghost use mathlib.Core.List.{_++_};
 ghost use Rattle.standard.specs.First.{first};
 ghost use Rattle.standard.specs.Bits.{bytesFor};
+ghost use Rattle.standard.specs.Frame.{callBits};
 ghost use Rattle.standard.specs.Refusals.{outcomeAnswer, recordTests, lineTests, bufferTests};
 ghost use Rattle.needs.specs.Stages.{NeededBy, firstOf};
 
-// The bytes that the data bits of so many frames need.
-fn data_bytes(width: usize, frames: usize) -> usize
-    requires { ⌜ (width ≤ 48) × (frames ≤ 1024) ⌝ }
-    ensures { λ n. ⌜ n ≡ bytesFor (frames * width) ⌝ }
+// How many of so many frames are control frames, from a frame place on.
+fn control_frames(control: bool, place: u8, frames: usize) -> usize
+    requires { ⌜ frames ≤ 1024 ⌝ }
+    ensures { λ n. ⌜ (n ≡ cond control ((frames + (place + 63) % 64) / 64) 0) × (n ≤ 16) ⌝ }
 {
-    (frames * width + 7) / 8
+    if control {
+        return (frames + (place as usize + 63) % 64) / 64;
+    }
+    0
 }
 
-// Refusals 13, 14, 18 and 15.
+// The bytes that the data bits of so many frames need, from a frame place on: D bits a frame, and 6 fewer for each control frame.
+fn data_bytes(r: Record, control: bool, place: u8, frames: usize) -> usize
+    requires { ⌜ (r .drn ≤ 28) × (place < 64) × (frames ≤ 1024) ⌝ }
+    ensures { λ n. ⌜ n ≡ bytesFor (callBits r control place frames) ⌝ }
+{
+    let fewer = 6 * control_frames(control, place, frames);
+    (frames * constellation::d_of(r) - fewer + 7) / 8
+}
+
+// Refusals 13, 14, 18, 19 and 15.
 fn line_fault(r: Record, state: LineState, frames: usize) -> Outcome
     ensures { λ x. ⌜ outcomeAnswer x ≡ first (lineTests r state frames) ⌝ }
 {
@@ -32,13 +46,16 @@ fn line_fault(r: Record, state: LineState, frames: usize) -> Outcome
     if 24 < state.doubtful {
         return Outcome::Refused(Refusal::DoubtfulTooLarge);
     }
+    if (63 < state.place) | (15 < state.done) {
+        return Outcome::Refused(Refusal::PlaceTooLarge);
+    }
     if 1024 < frames {
         return Outcome::Refused(Refusal::TooManyFrames);
     }
     Outcome::Done
 }
 
-// Refusals 4, 9, 10, 25, 11 to 14, 18 and 15.
+// Refusals 4, 9, 10, 25, 11 to 14, 18, 19 and 15.
 fn call_fault(r: Record, state: LineState, frames: usize) -> Outcome
     ensures { λ x. ⌜ outcomeAnswer x ≡ first (recordTests r ++ lineTests r state frames) ⌝ }
 {
@@ -56,9 +73,9 @@ pub struct Needed {
     pub octets: usize,
 }
 
-// What a call of so many frames needs, or refusals 4, 9, 10, 25, 11 to 14, 18 and 15.
-pub fn needed_by(r: Record, state: LineState, frames: usize) -> Needed
-    ensures { λ x. ⌜ NeededBy r state frames x ⌝ }
+// What a call of so many frames needs, or refusals 4, 9, 10, 25, 11 to 14, 18, 19 and 15.
+pub fn needed_by(r: Record, state: LineState, control: bool, frames: usize) -> Needed
+    ensures { λ x. ⌜ NeededBy r state control frames x ⌝ }
 {
     let fault = call_fault(r, state, frames);
     if let Outcome::Refused(_) = fault {
@@ -70,7 +87,7 @@ pub fn needed_by(r: Record, state: LineState, frames: usize) -> Needed
     }
     Needed {
         fault: fault,
-        bytes: data_bytes(constellation::d_of(r), frames),
+        bytes: data_bytes(r, control, state.place, frames),
         octets: 6 * frames,
     }
 }

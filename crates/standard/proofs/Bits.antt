@@ -2,7 +2,7 @@
 use mathlib.Core.Path.{_≡_, refl, sym, ap, ap₂, _∙_}
 use Prim.Native.Nat.{ℕ, zero, suc, _+_, _*_, _/_, _%_, _^_, _≤_, _<_, suc-le-suc}
 use mathlib.Core.Bool.{Bool, true, false}
-use mathlib.Core.List.{List, [], _∷_, _++_}
+use mathlib.Core.List.{List, [], _∷_, _++_, append-nil}
 use native.Mathlib.Nat.{add-zero, zero-add, add-suc, suc-add, mul-assoc, pow-suc, mod-one, div-one, mod-eq-of-lt, zero-div, not-suc-le-zero}
 use native.Mathlib.Nat.{zero-lt-suc, le-of-suc-le-suc, suc-ne-zero, suc-inj}
 use native.Mathlib.Numerals.{add-one, one-add}
@@ -128,6 +128,9 @@ bitAt-bytes n f t p h =
     let q : p / 8 < length (bytesOf n f) = omega (arith, length-bytesOf n f) in
     ap (λ (x : ℕ). bit x (p % 8)) (List·getD-append (bytesOf n f) t 0 (p / 8) q ∙ getD-list (λ k. field f (8 * k) 8) 0 n (p / 8) k)
     ∙ field-bit f (8 * (p / 8)) 8 (p % 8) (omega arith) ∙ ap f e
+
+pub bitAt-own : (n : ℕ) (f : ℕ → Bool) (p : ℕ) → p < 8 * n → bitAt (bytesOf n f) p ≡ f p
+bitAt-own n f p h = ap (λ (t : List ℕ). bitAt t p) (sym (append-nil (bytesOf n f))) ∙ bitAt-bytes n f [] p h
 
 -- the bytes of the bits of bytes are these
 pub bytes-back : (n : ℕ) (s : List ℕ) → ((i : ℕ) → getD s i 0 < 256) → n ≤ length s → bytesOf n (bitAt s) ≡ take n s

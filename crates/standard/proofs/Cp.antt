@@ -12,8 +12,7 @@ use lib.Dec.{T, leb, ltb, leb→le}
 use Rattle.standard.specs.Lists.{listFrom}
 use Rattle.standard.specs.Bits.{bit}
 use Rattle.standard.specs.Record.{topIndex, inMask}
-use Rattle.standard.specs.Crc.{crcBelow}
-use Rattle.standard.specs.Cp.{gamma, runPlace, Field, covers, bitIn, headFields, maskRun, maskFields, cpBody, crcField, cpBit}
+use Rattle.standard.specs.Cp.{gamma, runPlace, cpCrc, Field, covers, bitIn, headFields, maskRun, maskFields, cpBody, crcField, cpBit}
 use Rattle.standard.specs.declared.Record.{Record}
 use Rattle.standard.proofs.Lists.{or-none, and-left, and-right}
 use Rattle.standard.proofs.Bits.{field-bit}
@@ -154,7 +153,7 @@ module _ (r : Record) where
   body-off n h o = covered-append (headFields r) (maskFields r) n (head-off n h) (masks-off n (inr o))
 
   -- bit j of the CRC
-  pub cp-crc : (j : ℕ) → j < 16 → cpBit r (273 + gamma g + j) ≡ bit (crcBelow (bitIn (cpBody r)) (272 + gamma g)) j
+  pub cp-crc : (j : ℕ) → j < 16 → cpBit r (273 + gamma g + j) ≡ bit (cpCrc (bitIn (cpBody r)) g) j
   unfolding cpBit crcField bitIn
   cp-crc j h =
       let z : 273 + gamma g + j - (273 + gamma g) ≡ j = omega arith in

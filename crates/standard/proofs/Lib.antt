@@ -12,6 +12,7 @@ pub mod Signs
 pub mod Octets
 pub mod Dil
 pub mod Plan
+pub mod Control
 pub mod Frame
 pub mod Stages
 pub mod Refusals

@@ -10,7 +10,7 @@ use native.Mathlib.Omega.{arith}
 use lib.Dec.{T}
 use lib.ListN.{length, getD, take, drop, length-append, length-drop, take-append-drop, List·getD-append}
 use lib.Seq.{ext-getD, getD-append-add, length-take-le, drop-drop, take-at, drop-at}
-use Rattle.standard.specs.Lists.{listFrom, any, largest, lowestFrom, listWhere, parts, joined, each, after}
+use Rattle.standard.specs.Lists.{listFrom, any, largest, lowestFrom, listWhere, parts, lastOr, joined, each, after}
 
 -- ---- listFrom
 
@@ -43,13 +43,19 @@ module _ {X : Type 0} (f : ℕ → X) where
       let e : suc n - 1 ≡ n = omega arith in
       ap₂ (λ (j k : ℕ). f i ∷ listFrom f j k) (sym (add-one i)) (sym e)
 
+  -- the first m elements apart
+  pub listFrom-append : (i m n : ℕ) → listFrom f i (m + n) ≡ listFrom f i m ++ listFrom f (i + m) n
+  unfolding listFrom
+  listFrom-append i zero n = ap₂ (listFrom f) (sym (add-zero i)) (zero-add n)
+  listFrom-append i (suc m) n =
+      ap (listFrom f i) (suc-add m n)
+      ∙ ap (λ (xs : List X). f i ∷ xs)
+      (listFrom-append (suc i) m n ∙ ap (λ (j : ℕ). listFrom f (suc i) m ++ listFrom f j n) (suc-add i m ∙ sym (add-suc i m)))
+
   -- one element more
   pub listFrom-snoc : (i n : ℕ) → listFrom f i (suc n) ≡ listFrom f i n ++ (f (i + n) ∷ [])
   unfolding listFrom
-  listFrom-snoc i zero = ap (λ (x : ℕ). f x ∷ []) (sym (add-zero i))
-  listFrom-snoc i (suc n) =
-      ap (λ (xs : List X). f i ∷ xs)
-      (listFrom-snoc (suc i) n ∙ ap (λ (x : ℕ). listFrom f (suc i) n ++ (f x ∷ [])) (suc-add i n ∙ sym (add-suc i n)))
+  listFrom-snoc i n = ap (listFrom f i) (sym (add-one n)) ∙ listFrom-append i n 1
 
 pub listFrom-ext : {X : Type 0} (f g : ℕ → X) (n : ℕ) → ((k : ℕ) → k < n → f k ≡ g k) → listFrom f 0 n ≡ listFrom g 0 n
 listFrom-ext f g n h = listFrom-is g (f 0) n (listFrom f 0 n) (length-listFrom f 0 n) (λ k l. getD-list f (f 0) n k l ∙ h k l)
@@ -59,6 +65,10 @@ listFrom-ext f g n h = listFrom-is g (f 0) n (listFrom f 0 n) (length-listFrom f
 pub or-none : (a b : Bool) → a || b ≡ false → (a ≡ false) × (b ≡ false)
 or-none true b e = (cc, cc)
 or-none false b e = (refl, e)
+
+pub and-both : (a b : Bool) → a && b ≡ true → (a ≡ true) × (b ≡ true)
+and-both true b e = (refl, e)
+and-both false b e = (cc, cc)
 
 module _ (f : ℕ → Bool) (i : ℕ) where
   pub any-next : (n : ℕ) → any f i (n + 1) ≡ any f i n || f (i + n)
@@ -184,9 +194,14 @@ module _ (f : ℕ → Bool) where
       (where-snoc (suc i) n ∙ ap (λ (k : ℕ). listWhere f (suc i) n ++ cond (f k) (k ∷ []) []) (suc-add i n ∙ sym (add-suc i n)))
       ∙ sym (append-assoc (cond (f i) (i ∷ []) []) (listWhere f (suc i) n) (cond (f (i + suc n)) ((i + suc n) ∷ []) []))
 
--- ---- parts and joined
+-- ---- the last, parts and joined
 
 module _ {X : Type 0} where
+  pub lastOr-snoc : (x y : X) (xs : List X) → lastOr x (xs ++ (y ∷ [])) ≡ y
+  unfolding lastOr
+  lastOr-snoc x y [] = refl
+  lastOr-snoc x y (z ∷ zs) = lastOr-snoc z y zs
+
   pub joined-append : (a b : List (List X)) → joined (a ++ b) ≡ joined a ++ joined b
   unfolding joined
   joined-append [] b = refl

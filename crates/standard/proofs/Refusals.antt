@@ -18,8 +18,10 @@ use Rattle.standard.specs.Cp.{within}
 use Rattle.standard.specs.Constellation.{size, sizes}
 use Rattle.standard.specs.Modulus.{product}
 use Rattle.standard.specs.Refusals.{indexTooLarge, drnTooLarge, grantedBelowFullRate, intervalEmpty, productTooSmall}
-use Rattle.standard.specs.Refusals.{maskAboveIndices, framesAtCleardown, historyTooLarge, doubtfulTooLarge, tooManyFrames, emptyTest}
-use Rattle.standard.specs.Refusals.{emptyTests, rateTests, recordTests, readTests, writeTests, lineTests, bufferTests, frameTests, planTests}
+use Rattle.standard.specs.Refusals.{maskAboveIndices, framesAtCleardown, historyTooLarge, doubtfulTooLarge, placeTooLarge}
+use Rattle.standard.specs.Refusals.{tooManyFrames}
+use Rattle.standard.specs.Refusals.{emptyTest, emptyTests, rateTests, recordTests, readTests, writeTests, lineTests, bufferTests}
+use Rattle.standard.specs.Refusals.{frameTests, planTests}
 use Rattle.standard.specs.Calls.{accepted}
 use Rattle.standard.specs.declared.Law.{Law}
 use Rattle.standard.specs.declared.LineState.{LineState}
@@ -148,6 +150,7 @@ pub record Passed (r : Record) (st : LineState) (n : ℕ) (readShort writeShort 
   pub rated : framesAtCleardown r n ≡ false
   pub history : historyTooLarge st ≡ false
   pub doubtful : doubtfulTooLarge st ≡ false
+  pub places : placeTooLarge st ≡ false
   pub few : tooManyFrames n ≡ false
   pub enough : readShort ≡ false
   pub room : writeShort ≡ false
@@ -167,9 +170,10 @@ passed r st n readShort writeShort e =
       rated = at 11 (lit< tt);
       history = at 12 (lit< tt);
       doubtful = at 13 (lit< tt);
-      few = at 14 (lit< tt);
-      enough = at 15 (lit< tt);
-      room = at 16 (lit< tt);
+      places = at 14 (lit< tt);
+      few = at 15 (lit< tt);
+      enough = at 16 (lit< tt);
+      room = at 17 (lit< tt);
     }
 
 -- A.1: a call in a state whose count is 24 at most does not get 18
@@ -178,6 +182,10 @@ pub not-eighteen : (r : Record) (st : LineState) (n : ℕ) (readShort writeShort
 unfolding frameTests lineTests bufferTests recordTests rateTests emptyTests emptyTest listFrom doubtfulTooLarge
 not-eighteen r st n readShort writeShort h =
     first-says 18 (frameTests r st n readShort writeShort) (lit< tt) (rw (le-ltb 24 (st .doubtful) h) refl)
+
+pub few-passed : (r : Record) (st : LineState) (n : ℕ) (readShort writeShort : Bool) → Passed r st n readShort writeShort → n ≤ 1024
+unfolding tooManyFrames
+few-passed r st n readShort writeShort p = ltb-false 1024 n (p .few)
 
 -- a frame is sent or received only where the record can carry its K bits
 pub holds-passed : (r : Record) (st : LineState) (n : ℕ) (readShort writeShort : Bool) → Passed r st n readShort writeShort → 0 < n

@@ -57,6 +57,10 @@ pub taken-same : (g : Bool) (ss : List Bool) → taken g g ss ≡ ss
 taken-same g [] = refl
 taken-same g (s ∷ ss) = ap (λ (b : Bool). b ∷ ss) (xor-cancel s g)
 
+pub length-taken : (g g′ : Bool) (ss : List Bool) → length (taken g g′ ss) ≡ length ss
+length-taken g g′ [] = refl
+length-taken g g′ (s ∷ ss) = refl
+
 pub taken-append : (g g′ : Bool) (a b : List Bool) → zero < length a → taken g g′ (a ++ b) ≡ taken g g′ a ++ b
 taken-append g g′ [] b h = absurd (not-suc-le-zero h)
 taken-append g g′ (s ∷ ss) b h = refl

@@ -52,8 +52,8 @@ top-bit w n b h l =
     ∙ omega arith
 
 -- a number above six bits
-pub above-six : (s n : ℕ) → s < 64 → n < 2 ^ 42 → bitOr s (n * 64 % 2 ^ 64) ≡ s + 64 * n
-above-six s n hs hn = ap (bitOr s) (shl-exact 42 6 64 hn (omega arith)) ∙ or-shifted-r n 6 s hs ∙ omega arith
+pub above-six : (s n : ℕ) → s < 64 → n < 2 ^ 48 → bitOr s (n * 64 % 2 ^ 64) ≡ s + 64 * n
+above-six s n hs hn = ap (bitOr s) (shl-exact 48 6 64 hn (omega arith)) ∙ or-shifted-r n 6 s hs ∙ omega arith
 
 -- 2 to the power k, by a shift
 pub one-shifted : (k : ℕ) → k < 64 → 1 * 2 ^ k % 2 ^ 64 ≡ 2 ^ k

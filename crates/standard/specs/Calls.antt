@@ -6,7 +6,7 @@ use mathlib.Core.List.{List, [], _∷_, _++_, map}
 use lib.Dec.{eqb}
 use lib.IntN.{ℤ}
 use lib.ListN.{length, getD, take, drop, replicate}
-use Rattle.standard.specs.Lists.{listFrom}
+use Rattle.standard.specs.Lists.{listFrom, lastOr}
 use Rattle.standard.specs.First.{Answer, test, first}
 use Rattle.standard.specs.Bits.{bitAt, bitsIn, field, bytesOf, bytesFor, nth}
 use Rattle.standard.specs.Record.{topIndex, noRecord}
@@ -14,11 +14,13 @@ use Rattle.standard.specs.Cp.{cpLength, cpByteCount, cpBytes, recordIn}
 use Rattle.standard.specs.Octets.{sampleOf}
 use Rattle.standard.specs.Dil.{defaultDil}
 use Rattle.standard.specs.Plan.{pointsFor, sumOf, lowestMask}
-use Rattle.standard.specs.Frame.{dataBits, sendFrames, sendAfter, receiveFrames, receiveMarks, receiveAfter}
+use Rattle.standard.specs.Frame.{callBits, sendFrames, sendAfter, receiveFrames, receiveMarks, receiveAfter, receiveSaid}
 use Rattle.standard.specs.Refusals.{shorter, readTests, writeTests, frameTests, planTests}
 use Rattle.standard.specs.declared.Law.{Law}
 use Rattle.standard.specs.declared.LineState.{LineState}
 use Rattle.standard.specs.declared.Record.{Record}
+use Rattle.standard.specs.declared.Said.{Said}
+use Rattle.standard.specs.declared.Said.the-variants.{Nothing}
 
 -- a call whose refusal has the number 0 is accepted
 abbrev pub accepted : Answer → Bool
@@ -65,33 +67,40 @@ writeBytes c = cond (accepted (writeRefusal c)) (over (cpBytes (c .cp)) (c .byte
 
 -- ---- the frame sender
 
+-- A.2: 'on or off by a choice handed in', and the bits for 'a sequence that starts in the call'
 pub record SendCall : Type 0 where
   pub cp : Record
   pub law : Law
   pub frames : ℕ
+  pub control : Bool
+  pub sequence : ℕ
   pub bytes : List ℕ
   pub octets : List ℕ
 
-abbrev pub sendCall : Record → Law → ℕ → List ℕ → List ℕ → SendCall
-sendCall r l n bs os = record { cp = r; law = l; frames = n; bytes = bs; octets = os }
+abbrev pub sendCall : Record → Law → ℕ → Bool → ℕ → List ℕ → List ℕ → SendCall
+sendCall r l n on w bs os = record { cp = r; law = l; frames = n; control = on; sequence = w; bytes = bs; octets = os }
+
+-- how many data bits the call has: N × D, and 6 fewer for each control frame
+abbrev pub sendCount : LineState → SendCall → ℕ
+sendCount st c = callBits (c .cp) (c .control) (st .place) (c .frames)
 
 unfoldable pub sendRefusal : LineState → SendCall → Answer
 sendRefusal st c =
-    first (frameTests (c .cp) st (c .frames) (shorter (c .bytes) (bytesFor (dataBits (c .cp) (c .frames))))
-    (shorter (c .octets) (6 * c .frames)))
+    first (frameTests (c .cp) st (c .frames) (shorter (c .bytes) (bytesFor (sendCount st c))) (shorter (c .octets) (6 * c .frames)))
 
 -- 'The sender reads N × D data bits, ignoring bits past them'
-unfoldable pub sendBits : SendCall → List Bool
-sendBits c = bitsIn (dataBits (c .cp) (c .frames)) (c .bytes)
+unfoldable pub sendBits : LineState → SendCall → List Bool
+sendBits st c = bitsIn (sendCount st c) (c .bytes)
 
 -- 'Sender and receiver return the state left.'
 unfoldable pub sendLeft : LineState → SendCall → LineState
-sendLeft st c = cond (accepted (sendRefusal st c)) (sendAfter (c .cp) (c .frames) st (sendBits c)) st
+sendLeft st c = cond (accepted (sendRefusal st c)) (sendAfter (c .cp) (c .control) (c .sequence) (c .frames) st (sendBits st c)) st
 
 -- 'and writes 6 × N octets'
 unfoldable pub sendOctets : LineState → SendCall → List ℕ
 sendOctets st c =
-    cond (accepted (sendRefusal st c)) (over (sendFrames (c .cp) (c .law) (c .frames) st (sendBits c)) (c .octets)) (c .octets)
+    let os = sendFrames (c .cp) (c .law) (c .control) (c .sequence) (c .frames) st (sendBits st c) in
+    cond (accepted (sendRefusal st c)) (over os (c .octets)) (c .octets)
 
 -- ---- the frame receiver
 
@@ -99,35 +108,46 @@ pub record ReceiveCall : Type 0 where
   pub cp : Record
   pub law : Law
   pub frames : ℕ
+  pub control : Bool
   pub octets : List ℕ
   pub bytes : List ℕ
   pub marks : List ℕ
 
-abbrev pub receiveCall : Record → Law → ℕ → List ℕ → List ℕ → List ℕ → ReceiveCall
-receiveCall r l n os bs ms = record { cp = r; law = l; frames = n; octets = os; bytes = bs; marks = ms }
+abbrev pub receiveCall : Record → Law → ℕ → Bool → List ℕ → List ℕ → List ℕ → ReceiveCall
+receiveCall r l n on os bs ms = record { cp = r; law = l; frames = n; control = on; octets = os; bytes = bs; marks = ms }
+
+abbrev pub receiveCount : LineState → ReceiveCall → ℕ
+receiveCount st c = callBits (c .cp) (c .control) (st .place) (c .frames)
 
 unfoldable pub receiveRefusal : LineState → ReceiveCall → Answer
 receiveRefusal st c =
     first
     (frameTests (c .cp) st (c .frames) (shorter (c .octets) (6 * c .frames))
-    (shorter (c .bytes) (bytesFor (dataBits (c .cp) (c .frames))) || shorter (c .marks) (c .frames)))
+    (shorter (c .bytes) (bytesFor (receiveCount st c)) || shorter (c .marks) (c .frames)))
 
 unfoldable pub receiveOctets : ReceiveCall → List ℕ
 receiveOctets c = take (6 * c .frames) (c .octets)
 
 unfoldable pub receiveLeft : LineState → ReceiveCall → LineState
-receiveLeft st c = cond (accepted (receiveRefusal st c)) (receiveAfter (c .cp) (c .law) (c .frames) st (receiveOctets c)) st
+receiveLeft st c = cond (accepted (receiveRefusal st c)) (receiveAfter (c .cp) (c .law) (c .control) (c .frames) st (receiveOctets c)) st
 
 -- 'it writes N × D data bits, zeroing the rest of the last byte it touches'
 unfoldable pub receiveBytes : LineState → ReceiveCall → List ℕ
 receiveBytes st c =
-    let bits = receiveFrames (c .cp) (c .law) (c .frames) st (receiveOctets c) in
-    cond (accepted (receiveRefusal st c)) (over (bytesOf (bytesFor (dataBits (c .cp) (c .frames))) (nth bits)) (c .bytes)) (c .bytes)
+    let bits = receiveFrames (c .cp) (c .law) (c .control) (c .frames) st (receiveOctets c) in
+    cond (accepted (receiveRefusal st c)) (over (bytesOf (bytesFor (receiveCount st c)) (nth bits)) (c .bytes)) (c .bytes)
 
 -- 'and one mark byte per frame'
 unfoldable pub receiveMarked : LineState → ReceiveCall → List ℕ
 receiveMarked st c =
     cond (accepted (receiveRefusal st c)) (over (receiveMarks (c .cp) (c .law) (c .frames) (receiveOctets c)) (c .marks)) (c .marks)
+
+-- A.2: 'Where one ends in the call the receiver returns those bits, or the first that is so of frame lost, pattern wrong and CRC wrong;
+-- else none.' At most one ends in a call
+unfoldable pub receiveSays : LineState → ReceiveCall → Said
+receiveSays st c =
+    let said = receiveSaid (c .cp) (c .law) (c .control) (c .frames) st (receiveOctets c) in
+    cond (accepted (receiveRefusal st c)) (lastOr Nothing said) Nothing
 
 -- ---- linear samples
 

@@ -7,7 +7,7 @@ use lib.ListN.{getD}
 use Rattle.standard.specs.Lists.{listFrom, any, largest}
 use Rattle.standard.specs.Bits.{weight, bit, field, bytesOf, bytesFor}
 use Rattle.standard.specs.Record.{indexOf, topIndex, inMask}
-use Rattle.standard.specs.Crc.{crcBelow}
+use Rattle.standard.specs.Crc.{crcOver}
 use Rattle.standard.specs.declared.Record.{Record}
 
 -- 'γ = 136 × g'
@@ -62,6 +62,14 @@ runPlace m c = 137 + 136 * m + 17 * c
 abbrev pub crcPlace : ℕ → Place
 crcPlace g = place (273 + gamma g) 16
 
+-- 'Every bit whose number is a multiple of 17 .. is a .. start bit.'
+abbrev pub startBit : ℕ → Bool
+startBit n = eqb (n % 17) 0
+
+-- 'takes bits 18 to 271 + γ in order, start bits skipped'
+unfoldable pub cpCrc : (ℕ → Bool) → ℕ → ℕ
+cpCrc f g = crcOver startBit f 18 (254 + gamma g)
+
 -- ---- writing
 
 -- a field: its first bit's number, how many bits it has, and the number in it, lowest bit first
@@ -112,9 +120,8 @@ maskFields r = listFrom (λ k. maskRun r (k / 8) (k % 8)) 0 (8 * (topIndex r + 1
 unfoldable pub cpBody : Record → List Field
 cpBody r = headFields r ++ maskFields r
 
--- 'takes bits 18 to 271 + γ'
 unfoldable pub crcField : Record → Field
-crcField r = let g = topIndex r in filled (crcPlace g) (crcBelow (bitIn (cpBody r)) (272 + gamma g))
+crcField r = let g = topIndex r in filled (crcPlace g) (cpCrc (bitIn (cpBody r)) g)
 
 -- start bits, bits 30:32 and 128, 'all reserved, fill and last-byte padding bits' are 0
 unfoldable pub cpBit : Record → ℕ → Bool
@@ -153,7 +160,7 @@ recordIn f =
 
 -- the register's CRC, and the one that was sent, lowest bit first
 unfoldable pub crcMatches : (ℕ → Bool) → ℕ → Bool
-crcMatches f g = eqb (crcBelow f (272 + gamma g)) (numberIn f (crcPlace g))
+crcMatches f g = eqb (cpCrc f g) (numberIn f (crcPlace g))
 
 -- 'Every bit whose number is a multiple of 17, from 17 to 272 + γ, is a zero start bit.' One of them is 1
 unfoldable pub startBitSet : (ℕ → Bool) → ℕ → Bool

@@ -11,6 +11,7 @@ pub mod Signs
 pub mod Octets
 pub mod Dil
 pub mod Plan
+pub mod Control
 pub mod Frame
 pub mod Refusals
 pub mod Calls

@@ -34,6 +34,11 @@ unfoldable pub parts : {X : Type 0} → ℕ → ℕ → List X → List (List X)
 parts k zero xs = []
 parts k (suc n) xs = take k xs ∷ parts k n (drop k xs)
 
+-- the last of a list; x where there is none
+unfoldable pub lastOr : {X : Type 0} → X → List X → X
+lastOr x [] = x
+lastOr x (y ∷ ys) = lastOr y ys
+
 -- lists end to end
 unfoldable pub joined : {X : Type 0} → List (List X) → List X
 joined [] = []

@@ -1,5 +1,5 @@
--- Document 01, 'When the codec declines', and document 02, A.1, A.8 and A.10: the tests 1 to 18 and 25 to 28, each under a name, and the
--- lists of them in the papers' order. Assumes nothing.
+-- Document 01, 'When the codec declines', and document 02, A.1, A.2, A.8 and A.10: the tests 1 to 19 and 25 to 28, each under a name, and
+-- the lists of them in the papers' order. Assumes nothing.
 use Prim.Native.Nat.{ℕ, _+_, _*_, _-_, _^_}
 use mathlib.Core.Bool.{Bool, not, _&&_, _||_}
 use mathlib.Core.List.{List, [], _∷_, _++_}
@@ -23,6 +23,7 @@ use Rattle.standard.specs.declared.Refusal.the-variants.{CountExceedsByt
 use Rattle.standard.specs.declared.Refusal.the-variants.{StartBitSet, CrcMismatch, FixedBitWrong, DrnTooLarge, GrantedBelowFullRate}
 use Rattle.standard.specs.declared.Refusal.the-variants.{ProductTooSmall, MaskAboveIndices, FramesAtCleardown, HistoryTooLarge}
 use Rattle.standard.specs.declared.Refusal.the-variants.{TooManyFrames, InputTooShort, OutputTooShort, DoubtfulTooLarge}
+use Rattle.standard.specs.declared.Refusal.the-variants.{PlaceTooLarge}
 use Rattle.standard.specs.declared.Refusal.the-variants.{IntervalEmpty, RateOrSpacingOutside, NoMask, SumExceedsCeiling}
 
 -- 'A refusal carries its number'; 25 carries the interval too
@@ -45,6 +46,7 @@ refusalAnswer TooManyFrames = bare 15
 refusalAnswer InputTooShort = bare 16
 refusalAnswer OutputTooShort = bare 17
 refusalAnswer DoubtfulTooLarge = bare 18
+refusalAnswer PlaceTooLarge = bare 19
 refusalAnswer (IntervalEmpty i) = valued 25 i
 refusalAnswer RateOrSpacingOutside = bare 26
 refusalAnswer NoMask = bare 27
@@ -115,6 +117,10 @@ historyTooLarge st = leb (2 ^ 23) (st .history)
 unfoldable pub doubtfulTooLarge : LineState → Bool
 doubtfulTooLarge st = ltb 24 (st .doubtful)
 
+-- 19 (A.2). 'frame place exceeds 63 or sequence place exceeds 15 .. on or off'
+unfoldable pub placeTooLarge : LineState → Bool
+placeTooLarge st = ltb 63 (st .place) || ltb 15 (st .done)
+
 -- 15. 'N exceeds 1,024.'
 unfoldable pub tooManyFrames : ℕ → Bool
 tooManyFrames n = ltb 1024 n
@@ -172,16 +178,21 @@ readTests s n =
 unfoldable pub writeTests : Record → Bool → List Test
 writeTests r writeShort = recordTests r ++ (test 17 writeShort ∷ [])
 
--- 13, 14, 18 'checked after 14', and 15
+-- 13, 14, 18 'checked after 14', 19 'checked after 18', and 15
 unfoldable pub lineTests : Record → LineState → ℕ → List Test
 lineTests r st n =
-    test 13 (framesAtCleardown r n) ∷ test 14 (historyTooLarge st) ∷ test 18 (doubtfulTooLarge st) ∷ test 15 (tooManyFrames n) ∷ []
+    test 13 (framesAtCleardown r n) ∷
+    test 14 (historyTooLarge st) ∷
+    test 18 (doubtfulTooLarge st) ∷
+    test 19 (placeTooLarge st) ∷
+    test 15 (tooManyFrames n) ∷
+    []
 
 -- 16 and 17: readShort is the test of the buffer to be read, writeShort that of the buffers to be written
 unfoldable pub bufferTests : Bool → Bool → List Test
 bufferTests readShort writeShort = test 16 readShort ∷ test 17 writeShort ∷ []
 
--- 'sender and receiver 4 and 9 to 17', 18 and 25
+-- 'sender and receiver 4 and 9 to 17', 18, 19 and 25
 unfoldable pub frameTests : Record → LineState → ℕ → Bool → Bool → List Test
 frameTests r st n readShort writeShort = (recordTests r ++ lineTests r st n) ++ bufferTests readShort writeShort
 

@@ -15,14 +15,19 @@ pub struct Record {
     pub mask: [u64; 12],
 }
 
-// The line state: the last 23 scrambled bits, the latest in weight 1, the last sign, and how many coming data bits are doubtful.
+// The line state: the last 23 scrambled bits, the latest in weight 1, the last sign, and how many coming data bits are doubtful. Then the
+// control channel's: the frame place, the sequence place (control frames done), the sequence's 96 bits, and whether a frame of it was lost.
 pub struct LineState {
     pub history: u32,
     pub sign: bool,
     pub doubtful: u8,
+    pub place: u8,
+    pub done: u8,
+    pub sequence: [u8; 12],
+    pub lost: bool,
 }
 
-// The refusals 1 to 18, 25 with the interval whose mask is empty, and 26 to 28.
+// The refusals 1 to 19, 25 with the interval whose mask is empty, and 26 to 28.
 pub enum Refusal {
     CountExceedsBytes,
     CountTooSmall,
@@ -42,6 +47,7 @@ pub enum Refusal {
     InputTooShort,
     OutputTooShort,
     DoubtfulTooLarge,
+    PlaceTooLarge,
     IntervalEmpty(u8),
     RateOrSpacingOutside,
     NoMask,
@@ -65,10 +71,27 @@ pub struct CpWritten {
     pub bit_count: usize,
 }
 
-// The answer of the frame sender and of the frame receiver, with the line state left.
+// What the receiver says of the control sequence that ends in a call: its bits 16, 17 and 24 to 77, or why they are not to be had; nothing
+// where none ends.
+pub enum Said {
+    Nothing,
+    Sequence(u64),
+    FrameLost,
+    PatternWrong,
+    CrcWrong,
+}
+
+// The answer of the frame sender, with the line state left.
 pub struct FramesDone {
     pub outcome: Outcome,
     pub state: LineState,
+}
+
+// The answer of the frame receiver, with the line state left.
+pub struct FramesRead {
+    pub outcome: Outcome,
+    pub state: LineState,
+    pub said: Said,
 }
 
 // The answer of the planner: M, the mask's halves and its sum of squared linear values. They are 0 where the outcome is a refusal.

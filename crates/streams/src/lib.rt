@@ -1,14 +1,18 @@
-// Data and octets of any length, call after call: how data is cut into frames, bits that fill no byte yet, and what the marks come to.
+// Data and octets of any length, call after call: how data is cut into frames, bits that fill no byte yet, what the marks come to, and the
+// control channel's data in digits.
 use standard::LineState;
+use standard::Record;
 use std::num::wrapping_add_u64;
 ghost use mathlib.Core.Path.{_≡_};
 ghost use mathlib.Core.Bool.{cond};
-ghost use Prim.Native.Nat.{_+_, _*_, _^_, _≤_, min};
+ghost use mathlib.Core.List.{map};
+ghost use Prim.Native.Nat.{ℕ, _+_, _*_, _/_, _%_, _^_, _≤_, _<_, min};
 ghost use lib.Dec.{eqb};
 ghost use lib.ListN.{length};
-ghost use Rattle.standard.specs.Bits.{bitAt, bytesOf, field};
-ghost use Rattle.standard.specs.Frame.{fresh, cold};
+ghost use Rattle.standard.specs.Bits.{bitAt, bytesOf, field, odd, numberOf};
+ghost use Rattle.standard.specs.Frame.{fresh, cold, isControl, width, callBits};
 ghost use Rattle.streams.specs.Cut.{CutInto};
+ghost use Rattle.streams.specs.Digits.{digitsOf};
 ghost use Rattle.streams.specs.Later.{later, differing as Later·differing};
 ghost use Rattle.streams.specs.Marks.{noted};
 
@@ -20,6 +24,10 @@ pub fn fresh_state() -> LineState
         history: 0,
         sign: false,
         doubtful: 0,
+        place: 0,
+        done: 0,
+        sequence: [0; 12],
+        lost: false,
     }
 }
 
@@ -31,42 +39,118 @@ pub fn cold_state() -> LineState
         history: 0,
         sign: false,
         doubtful: 24,
+        place: 0,
+        done: 0,
+        sequence: [0; 12],
+        lost: false,
     }
 }
 
-// Data cut into frames: how many, and the bits that fill no frame, or the zero bits that pad the last one.
+// The data bits of frame i of those that begin at a frame place: D, and K in a control frame.
+pub fn width_at(r: Record, control: bool, place: u8, i: usize) -> usize
+    requires { ⌜ (r .drn ≤ 28) × (i ≤ 1024) ⌝ }
+    ensures { λ x. ⌜ (x ≡ width r (isControl control ((place + i) % 64))) × (14 ≤ x) × (x ≤ 48) ⌝ }
+{
+    if control & ((place as usize + i) % 64 == 0) {
+        return constellation::k_of(r);
+    }
+    constellation::d_of(r)
+}
+
+// The data bits of so many frames, from a frame place on.
+pub fn bits_in(r: Record, control: bool, place: u8, frames: usize) -> usize
+    requires { ⌜ (r .drn ≤ 28) × (place < 64) × (frames ≤ 1024) ⌝ }
+    ensures { λ x. ⌜ (x ≡ callBits r control place frames) × (14 * frames ≤ x) × (x ≤ 48 * frames) ⌝ }
+{
+    let mut bits = 0;
+    let mut i = 0;
+    while i < frames {
+        bits += width_at(r, control, place, i);
+        i += 1;
+    }
+    bits
+}
+
+// Data cut into frames: how many, and the bits that fill no frame, or the zero bits that fill the last one.
 pub struct Cut {
     pub frames: usize,
     pub left: usize,
     pub padding: usize,
 }
 
-// Cuts so many bytes of data into frames; whole frames alone, or a last one that is padded.
-pub fn cut_into(bytes: usize, width: usize, exact: bool) -> Cut
-    requires { ⌜ (1 ≤ width) × (width ≤ 48) × (bytes ≤ 128 * width) ⌝ }
-    ensures { λ x. ⌜ CutInto bytes width exact (x .frames) (x .left) (x .padding) ⌝ }
+// What is cut of bits too few for the next frame, of so many bits, after so many frames.
+fn cut_rest(frames: usize, left: usize, next: usize, exact: bool) -> Cut
+    requires { ⌜ (frames < 1024) × (left < next) × (next ≤ 48) ⌝ }
+    ensures { λ x. ⌜ ((f : ℕ → ℕ) → f (frames + 1) ≡ f frames + next → CutInto f (f frames + left) exact x) ⌝ }
 {
-    let whole = 8 * bytes / width;
-    let left = 8 * bytes % width;
-    if left == 0 {
+    if exact | (left == 0) {
         return Cut {
-            frames: whole,
-            left: 0,
-            padding: 0,
-        };
-    }
-    if exact {
-        return Cut {
-            frames: whole,
+            frames,
             left,
             padding: 0,
         };
     }
     Cut {
-        frames: whole + 1,
+        frames: frames + 1,
         left: 0,
-        padding: width - left,
+        padding: next - left,
     }
+}
+
+// Cuts so many bits of data into frames, from a frame place on; whole frames alone, or a last one that is filled with zero bits.
+pub fn cut_into(r: Record, control: bool, place: u8, bits: usize, exact: bool) -> Cut
+    requires { ⌜ (r .drn ≤ 28) × (place < 64) × (bits ≤ callBits r control place 1024) ⌝ }
+    ensures { λ x. ⌜ CutInto (callBits r control place) bits exact x ⌝ }
+{
+    let mut left = bits;
+    let mut frames = 0;
+    while frames < 1024 {
+        let next = width_at(r, control, place, frames);
+        if left < next {
+            return cut_rest(frames, left, next, exact);
+        }
+        left -= next;
+        frames += 1;
+    }
+    Cut {
+        frames,
+        left,
+        padding: 0,
+    }
+}
+
+// The frame with which the control sequence ends, of those that begin at a frame place with so many control frames of the sequence done.
+pub fn ending(place: u8, done: u8) -> usize
+    requires { ⌜ (place < 64) × (done < 16) ⌝ }
+    ensures { λ x. ⌜ ((place + x) % 64 ≡ 0) × (done + (x + (place + 63) % 64) / 64 ≡ 15) ⌝ }
+{
+    (64 - place as usize) % 64 + 64 * (15 - done as usize)
+}
+
+// Writes the data of a control sequence in digits; the first is bit 2 of `word`.
+pub fn put_digits(word: u64, digits: &mut [u8])
+    requires { ⌜ length (now digits) ≤ 54 ⌝ }
+    ensures { λ x. ⌜ now (digits .exit) ≡ digitsOf word (length (now (digits .entry))) ⌝ }
+{
+    let mut i = 0;
+    while i < digits.len() {
+        digits[i] = b'0' + bits::bit_of(word, i + 2) as u8;
+        i += 1;
+    }
+}
+
+// The number in binary digits, the lowest first.
+pub fn number_of(digits: &[u8]) -> u64
+    requires { ⌜ length (now digits) ≤ 54 ⌝ }
+    ensures { λ x. ⌜ x ≡ numberOf (map odd (now (digits .entry))) ⌝ }
+{
+    let mut number = 0;
+    let mut i = digits.len();
+    while i > 0 {
+        i -= 1;
+        number = 2 * number + bits::wide(digits[i]) % 2;
+    }
+    number
 }
 
 // The byte in the eight bits from bit `at` on.

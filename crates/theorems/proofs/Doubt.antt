@@ -1,36 +1,37 @@
 -- The states of the two ends: they agree but for c doubtful bits. A frame as sent leaves fewer, any frame at most 24. Assumes nothing.
-use mathlib.Core.Path.{_≡_, refl, sym, ap, _∙_}
+use mathlib.Core.Path.{_≡_, refl, sym, ap, ap₂, _∙_}
 use mathlib.Core.Logic.{_⊎_, inl, inr}
 use Prim.Native.Nat.{ℕ, zero, suc, _-_, _%_, _^_, _≤_}
-use mathlib.Core.Bool.{Bool, false}
+use mathlib.Core.Bool.{Bool, true, false, cond}
 use mathlib.Core.List.{List, [], _∷_}
 use native.Mathlib.Nat.{not-suc-le-zero}
 use native.Mathlib.Omega.{arith}
 use lib.Dec.{eqb}
 use lib.ListN.{length, getD}
 use Rattle.standard.specs.Bits.{_⊕_}
-use Rattle.standard.specs.Record.{D}
 use Rattle.standard.specs.Scrambler.{push, pushAll, scramble, descramble}
-use Rattle.standard.specs.Frame.{lineBits, sendFrame, sendNext, receiveFrame, receiveNext}
+use Rattle.standard.specs.Frame.{isControl, nextPlace, width, controls, Outgoing, controlBits, sendFrame, sendNext, Incoming, heardControl}
+use Rattle.standard.specs.Frame.{receiveFrame, receiveNext, sixIn}
 use Rattle.standard.specs.declared.Law.{Law}
 use Rattle.standard.specs.declared.LineState.{LineState}
 use Rattle.standard.specs.declared.Record.{Record}
 use Rattle.standard.proofs.Scrambler.{Close, any-close, closer-all, same-past, length-scramble, descramble-scramble}
 use Rattle.standard.proofs.Signs.{taken, taken-same}
-use Rattle.standard.proofs.Frame.{Holds, good-doubtful, sent-mark, sent-heard, sent-sign, length-receiveFrame}
+use Rattle.standard.proofs.Frame.{Holds, good-doubtful, Wide, sent-mark, sent-data, sent-control, sent-sign, length-receiveFrame}
 use Rattle.theorems.specs.Runs.{Same}
 use Rattle.theorems.proofs.Ends.{Link, Mends}
 
--- all but the c oldest bits of the histories agree, and the last signs agree unless c is 24
-pub record Near (c : ℕ) (s t : LineState) : Type 0 where
+-- all but the c oldest bits of the histories agree, the last signs unless c is 24, the frame places if the channel is ever on
+pub record Near (Ever : Type 0) (c : ℕ) (s t : LineState) : Type 0 where
   pub history : Close c (s .history) (t .history)
   pub sign : (c ≡ 24) ⊎ (s .sign ≡ t .sign)
+  pub place : Ever → s .place ≡ t .place
 
-pub near-any : (s t : LineState) → Near 24 s t
-near-any s t = record { history = any-close 24 (s .history) (t .history) (omega arith); sign = inl refl }
+pub near-any : {Ever : Type 0} (s t : LineState) → (Ever → s .place ≡ t .place) → Near Ever 24 s t
+near-any s t e = record { history = any-close 24 (s .history) (t .history) (omega arith); sign = inl refl; place = e }
 
-pub near-same : (c : ℕ) (s t : LineState) → Same s t → Near c s t
-near-same c s t e = record { history = ap (λ (x : ℕ). x % 2 ^ (23 - c)) (e .0); sign = inr (e .1) }
+pub near-same : {Ever : Type 0} (c : ℕ) (s t : LineState) → Same s t → (Ever → s .place ≡ t .place) → Near Ever c s t
+near-same c s t e p = record { history = ap (λ (x : ℕ). x % 2 ^ (23 - c)) (e .0); sign = inr (e .1); place = p }
 
 -- the bits that a scrambler gives, taken with another history and last sign
 module _ (c h h′ : ℕ) (g g′ : Bool) (e : Close c h h′) (q : (c ≡ 24) ⊎ (g ≡ g′)) where
@@ -60,36 +61,80 @@ module _ (c h h′ : ℕ) (g g′ : Bool) (e : Close c h h′) (q : (c ≡ 24) �
           let z : c - suc (length ss) ≡ 23 - length ss = omega arith in
           rw z (closer-all 23 (push h s) (push h′ (s ⊕ g ⊕ g′)) ss (any-close 23 (push h s) (push h′ (s ⊕ g ⊕ g′)) (omega arith)))
 
-module _ (r : Record) (l : Law) (holds : Holds r) (c : ℕ) (s t : LineState) (ds : List Bool) (fit : length ds ≡ D r) (n : Near c s t) where
-  link-bits : (p : ℕ) → c ≤ p → getD (receiveFrame r l t (sendFrame r l s ds)) p false ≡ getD ds p false
-  unfolding receiveFrame lineBits
-  link-bits p k =
-      rw (sent-mark r l holds s ds fit, sent-heard r l holds s ds fit (t .sign))
-      (taken-bits c (s .history) (t .history) (s .sign) (t .sign) (n .history) (n .sign) ds p k)
+-- a frame as wide as its state says, and where its choice is on, it is so once
+pub record Fit (Ever : Type 0) (r : Record) (s : LineState) (f : Outgoing) : Type 0 where
+  pub wide : Wide r s f
+  pub ever : f .control ≡ true → Ever
 
-  link-near : Near (c - length ds) (sendNext s ds) (receiveNext r l t (sendFrame r l s ds))
-  unfolding sendNext lineBits receiveNext
+-- the choice at the frame is the same
+abbrev pub Step : Outgoing → Incoming → Type 0
+Step f y = y .control ≡ f .control
+
+-- a frame as it is sent, to be received
+abbrev pub sentAs : Record → Law → LineState → Outgoing → Incoming
+sentAs r l s f = sixIn (f .control) (sendFrame r l s f)
+
+pub same-kind : {Ever : Type 0} (on : Bool) (p q : ℕ) → (on ≡ true → Ever) → (Ever → p ≡ q) → isControl on q ≡ isControl on p
+same-kind true p q e k = ap (λ (x : ℕ). eqb x 0) (sym (k (e refl)))
+same-kind false p q e k = refl
+
+-- a control frame's data bits follow a sign that both have
+sign-given : (b g g′ : Bool) (c : ℕ) → (c ≡ 24) ⊎ (g ≡ g′) → (c ≡ 24) ⊎ (cond b g′ g ≡ g′)
+sign-given true g g′ c q = inr refl
+sign-given false g g′ c q = q
+
+module _ {Ever : Type 0} (r : Record) (l : Law) (holds : Holds r) (c : ℕ) (s t : LineState) (f : Outgoing) (fit : Fit Ever r s f)
+    (n : Near Ever c s t) where
+  abbrev before : Bool
+  before = cond (controls s (f .control)) (t .sign) (s .sign)
+
+  kind : controls t (f .control) ≡ controls s (f .control)
+  kind = same-kind (f .control) (s .place) (t .place) (fit .ever) (n .place)
+
+  sign-now : (c ≡ 24) ⊎ (before ≡ t .sign)
+  sign-now = sign-given (controls s (f .control)) (s .sign) (t .sign) c (n .sign)
+
+  link-bits : (p : ℕ) → c ≤ p → getD (receiveFrame r l t (sentAs r l s f)) p false ≡ getD (f .bits) p false
+  unfolding receiveFrame
+  link-bits p k =
+      rw (sent-mark r l holds s f (fit .wide), sent-data r l holds s f (fit .wide) t kind)
+      (taken-bits c (s .history) (t .history) before (t .sign) (n .history) sign-now (f .bits) p k)
+
+  link-near : Near Ever (c - length (f .bits)) (sendNext s f) (receiveNext r l t (sentAs r l s f))
+  unfolding sendNext receiveNext
   link-near =
       record {
-        history = rw (sent-heard r l holds s ds fit (t .sign))
-            (taken-close c (s .history) (t .history) (s .sign) (t .sign) (n .history) (n .sign) ds);
-        sign = inr (sym (sent-sign r l holds s ds fit t));
+        history = rw (sent-data r l holds s f (fit .wide) t kind)
+            (taken-close c (s .history) (t .history) before (t .sign) (n .history) sign-now (f .bits));
+        sign = inr (sym (sent-sign r l holds s f (fit .wide) t));
+        place = λ e. ap (nextPlace (f .control)) (n .place e);
       }
 
   -- A.1's count after a frame as sent
-  pub link-doubtful : receiveNext r l t (sendFrame r l s ds) .doubtful ≡ t .doubtful - length ds
+  pub link-doubtful : receiveNext r l t (sentAs r l s f) .doubtful ≡ t .doubtful - length (f .bits)
   link-doubtful =
-      good-doubtful r l (sendFrame r l s ds) t (ap (λ (x : ℕ). eqb x 0) (sent-mark r l holds s ds fit))
-      ∙ ap (λ (x : ℕ). t .doubtful - x) (sym fit)
+      good-doubtful r l t (sentAs r l s f) (ap (λ (x : ℕ). eqb x 0) (sent-mark r l holds s f (fit .wide)))
+      ∙ ap (λ (x : ℕ). t .doubtful - x) (ap (width r) kind ∙ sym (fit .wide))
 
-pub link : (r : Record) (l : Law) → Holds r → Link (sendFrame r l) sendNext (λ f. f) (receiveFrame r l) (receiveNext r l)
-    (λ s f. length f ≡ D r) Near
-link r l holds =
+  -- A.2: all control bits as sent but the first, where the last sign was another
+  pub link-control : heardControl r l t (sentAs r l s f) ≡ taken (s .sign) (t .sign) (controlBits s f)
+  link-control = sent-control r l holds s f (fit .wide) t kind
+
+pub link : (Ever : Type 0) (r : Record) (l : Law) → Holds r → Link (sentAs r l) sendNext (λ f. f .bits) (receiveFrame r l) (receiveNext r l)
+    (Fit Ever r) Step (Near Ever)
+link Ever r l holds =
     record {
-      long = λ c s t f y e n. length-receiveFrame r l t y ∙ sym e;
+      long = λ c s t f y e k n.
+          length-receiveFrame r l t y ∙ ap (λ (b : Bool). width r (controls t b)) k
+          ∙ ap (width r) (same-kind (f .control) (s .place) (t .place) (e .ever) (n .place)) ∙ sym (e .wide);
       bits = λ c s t f e n. link-bits r l holds c s t f e n;
       nearer = λ c s t f e n. link-near r l holds c s t f e n;
     }
 
-pub mends : (r : Record) (l : Law) → Mends sendNext (receiveNext r l) (λ s f. length f ≡ D r) Near
-mends r l = record { lose = λ c s t f y e n. near-any (sendNext s f) (receiveNext r l t y); doubt = λ c s t n. near-any s t }
+pub mends : (Ever : Type 0) (r : Record) (l : Law) → Mends sendNext (receiveNext r l) (Fit Ever r) Step (Near Ever)
+unfolding sendNext receiveNext
+mends Ever r l =
+    record {
+      lose = λ c s t f y e k n. near-any (sendNext s f) (receiveNext r l t y) (λ z. ap₂ nextPlace (sym k) (n .place z));
+      doubt = λ c s t n. near-any s t (n .place);
+    }

@@ -10,17 +10,18 @@ use Rattle.standard.specs.Lists.{listFrom, any, largest, parts, joined, each, a
 use Rattle.standard.specs.First.{valued, first}
 use Rattle.standard.specs.Bits.{bitAt, bitsIn, field, bytesOf, nth, numberOf, bitsOf}
 use Rattle.standard.specs.Record.{K, topIndex, inMask}
-use Rattle.standard.specs.Crc.{crcStep, crcBelow}
-use Rattle.standard.specs.Cp.{bitIn, headFields, maskFields, cpBody, crcField, cpBit, cpBytes, maskBitIn, halfIn, recordIn, crcMatches}
-use Rattle.standard.specs.Cp.{startBitSet}
+use Rattle.standard.specs.Crc.{crcStep, crcOver}
+use Rattle.standard.specs.Cp.{cpCrc, bitIn, headFields, maskFields, cpBody, crcField, cpBit, cpBytes, maskBitIn, halfIn, recordIn}
+use Rattle.standard.specs.Cp.{crcMatches, startBitSet}
 use Rattle.standard.specs.Scrambler.{taps, push, pushAll, scramble, descramble}
 use Rattle.standard.specs.Constellation.{sizeOf, labelOf, pointOf, member, size, label, sizes}
 use Rattle.standard.specs.Modulus.{product, labels, number}
 use Rattle.standard.specs.Signs.{signsOf, signBits}
 use Rattle.standard.specs.Octets.{positiveOctet, octet, signOf, ucodeOf}
-use Rattle.standard.specs.Frame.{fresh, ucodeAt, lineBits, frameSigns, frameLabels, frameOctets, sendFrame, sendNext, receivedNumber}
-use Rattle.standard.specs.Frame.{outsideTest, outsideTests, markTests, mark, heardBits, receiveFrame, doubtfulAfter, receiveNext, sendFrames}
-use Rattle.standard.specs.Frame.{sendAfter, receiveFrames, receiveMarks, receiveAfter}
+use Rattle.standard.specs.Frame.{fresh, ucodeAt, sequenceSent, controlBits, lineBits, frameSigns, frameLabels, frameOctets, sendFrame}
+use Rattle.standard.specs.Frame.{sendNext, receivedNumber, outsideTest, outsideTests, markTests, mark, heardBits, heardData, receiveFrame}
+use Rattle.standard.specs.Frame.{doubtfulAfter, receiveNext, outgoingFrames, sendFrames, sendAfter, incomingFrames, receiveFrames}
+use Rattle.standard.specs.Frame.{receiveMarks, receiveAfter}
 use Rattle.standard.specs.Refusals.{countExceedsBytes, countTooSmall, syncBroken, indexTooLarge, lengthWrong, fixedBitWrong, drnTooLarge}
 use Rattle.standard.specs.Refusals.{grantedBelowFullRate, intervalEmpty, productTooSmall, maskAboveIndices, emptyTest, emptyTests}
 use Rattle.standard.specs.Refusals.{rateTests, recordTests, readTests}
@@ -36,10 +37,11 @@ use Rattle.theorems.proofs.Fewer.{one-fewer}
 
 rows-hold : all table ≡ true
 unfolding table listFrom any largest parts joined each after first bitAt bitsIn field bytesOf nth numberOf bitsOf topIndex inMask crcStep
-    crcBelow bitIn headFields maskFields cpBody crcField cpBit cpBytes maskBitIn halfIn recordIn crcMatches startBitSet taps push pushAll
+    crcOver cpCrc bitIn headFields maskFields cpBody crcField cpBit cpBytes maskBitIn halfIn recordIn crcMatches startBitSet taps push pushAll
     scramble descramble sizeOf labelOf pointOf member sizes product labels number signsOf signBits positiveOctet octet signOf ucodeOf fresh
-    lineBits frameSigns frameLabels frameOctets sendFrame sendNext receivedNumber outsideTest outsideTests markTests mark heardBits
-    receiveFrame doubtfulAfter receiveNext sendFrames sendAfter receiveFrames receiveMarks receiveAfter countExceedsBytes countTooSmall
+    sequenceSent controlBits lineBits frameSigns frameLabels frameOctets sendFrame sendNext receivedNumber outsideTest outsideTests
+    markTests mark heardBits heardData receiveFrame doubtfulAfter receiveNext outgoingFrames sendFrames sendAfter incomingFrames
+    receiveFrames receiveMarks receiveAfter countExceedsBytes countTooSmall
     syncBroken indexTooLarge lengthWrong fixedBitWrong drnTooLarge grantedBelowFullRate intervalEmpty productTooSmall maskAboveIndices
     emptyTest emptyTests rateTests recordTests readTests readRefusal
 rows-hold = refl

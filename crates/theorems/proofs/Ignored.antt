@@ -11,15 +11,15 @@ use Rattle.standard.specs.Lists.{listFrom, any, largest}
 use Rattle.standard.specs.First.{test, first}
 use Rattle.standard.specs.Bits.{bitAt, field}
 use Rattle.standard.specs.Record.{topIndex, noRecord}
-use Rattle.standard.specs.Cp.{gamma, runPlace, indexPlace, indexIn, maskBitIn, halfIn, recordIn, crcMatches, startBitSet, within, reserved}
-use Rattle.standard.specs.Cp.{ignored}
+use Rattle.standard.specs.Cp.{gamma, runPlace, indexPlace, startBit, cpCrc, indexIn, maskBitIn, halfIn, recordIn, crcMatches, startBitSet}
+use Rattle.standard.specs.Cp.{within, reserved, ignored}
 use Rattle.standard.specs.Refusals.{countTooSmall, syncBroken, indexTooLarge, lengthWrong, fixedBitWrong, rateTests}
 use Rattle.standard.specs.Refusals.{readTests}
 use Rattle.standard.specs.Calls.{accepted, ReadCall, readRefusal, readRecord}
 use Rattle.standard.specs.declared.Record.{Record}
 use Rattle.standard.proofs.Lists.{listFrom-ext, every, every-at, and-left, and-right, T→true, largest-ext}
 use Rattle.standard.proofs.Bits.{field-ext}
-use Rattle.standard.proofs.Crc.{crcBelow-ext}
+use Rattle.standard.proofs.Crc.{crcOver-ext}
 use Rattle.theorems.specs.Ignored.{topRead, SameBit, SameButFill, SameButIgnored, SameCount, SameMatch, SameRead, ReaderIgnores}
 
 any-ext : (f f′ : ℕ → Bool) (i n : ℕ) → ((k : ℕ) → i ≤ k → k < i + n → f k ≡ f′ k) → any f i n ≡ any f′ i n
@@ -166,10 +166,10 @@ module _ (c d : ReadCall) where
       (ap (λ (x : Bool). x && leb n (288 + gamma (topRead c))) (lt-leb _ n (omega arith))))
 
   crc-same : SameButFill c d → SameMatch c d
-  unfolding crcMatches
+  unfolding crcMatches cpCrc
   crc-same same =
       let g = topRead c in
-      ap₂ eqb (crcBelow-ext fᶜ fᵈ (272 + gamma g) (λ n h. same n (omega arith)))
+      ap₂ eqb (crcOver-ext startBit fᶜ fᵈ 18 (254 + gamma g) (λ j h. same (18 + j) (omega arith)))
       (field-ext fᶜ fᵈ (273 + gamma g) (273 + gamma g) 16 (λ j h. same (273 + gamma g + j) (omega arith)))
       ∙ ap (λ (r : Record). crcMatches fᵈ (topIndex r)) (record-same fᶜ fᵈ (but-fill same))
 

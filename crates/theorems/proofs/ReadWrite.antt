@@ -14,17 +14,16 @@ use Rattle.standard.specs.Lists.{any, largest}
 use Rattle.standard.specs.First.{bare, test, first}
 use Rattle.standard.specs.Bits.{weight, odd, bit, bitAt, field}
 use Rattle.standard.specs.Record.{indexOf, topIndex, halfOf, inMask}
-use Rattle.standard.specs.Crc.{crcBelow}
-use Rattle.standard.specs.Cp.{gamma, cpLength, cpByteCount, runPlace, Field, covers, bitIn, headFields, cpBody, cpBit, cpBytes, indexIn}
-use Rattle.standard.specs.Cp.{maskBitIn, halfIn, recordIn, crcMatches, startBitSet, within, reserved, ignored}
+use Rattle.standard.specs.Cp.{gamma, cpLength, cpByteCount, runPlace, startBit, cpCrc, Field, covers, bitIn, headFields, cpBody, cpBit}
+use Rattle.standard.specs.Cp.{cpBytes, indexIn, maskBitIn, halfIn, recordIn, crcMatches, startBitSet, within, reserved, ignored}
 use Rattle.standard.specs.Refusals.{shorter, countExceedsBytes, syncBroken, lengthWrong, fixedBitWrong, maskAboveIndices, rateTests}
 use Rattle.standard.specs.Refusals.{recordTests, readTests, writeTests}
 use Rattle.standard.specs.Calls.{accepted, over, readRefusal, readRecord, writeRefusal, writeBitCount, writeBytes}
 use Rattle.standard.specs.declared.Record.{Record}
-use Rattle.standard.proofs.Lists.{getD-list, any-none, or-none, every, every-at, T→true, largest-ext}
+use Rattle.standard.proofs.Lists.{getD-list, any-none, or-none, and-both, every, every-at, T→true, largest-ext}
 use Rattle.standard.proofs.First.{None, first-none, none-first, none-at, none-append}
 use Rattle.standard.proofs.Bits.{odd-weight, field-bit, bytesOf-ext, bytes-back}
-use Rattle.standard.proofs.Crc.{crcBelow-ext}
+use Rattle.standard.proofs.Crc.{crcOver-ext}
 use Rattle.standard.proofs.Cp.{covered, cp-body, cp-head, cp-mask, cp-crc, cp-zero}
 use Rattle.standard.proofs.Refusals.{top-lt, zero-half, read-numbered, applied}
 use Rattle.theorems.specs.RoundTrip.{IgnoredZero, ReadThenWrite}
@@ -105,7 +104,7 @@ module _ (s : List ℕ) (n : ℕ) (ok : first (readTests s n) .number ≡ 0) whe
       let z : 17 * (k / 17) ≡ k = omega arith in
       ap f (sym z) ∙ any-none (λ i. f (17 * i)) 1 (16 + 8 * g) (not-read 5 (lit< tt)) (k / 17) (omega arith) (omega arith)
 
-  crc-same : crcBelow f (272 + gamma g) ≡ field f (273 + gamma g) 16
+  crc-same : cpCrc f g ≡ field f (273 + gamma g) 16
   unfolding readTests crcMatches
   crc-same = eqb-true _ _ (not-false _ (not-read 6 (lit< tt)))
 
@@ -203,22 +202,18 @@ module _ (s : List ℕ) (n : ℕ) (ok : first (readTests s n) .number ≡ 0) whe
     unfolding ignored
     head-zero k h e = in-field (or-true _ _ (every-at sort 137 sorted k h))
       where
-        both : (a b : Bool) → a && b ≡ true → (a ≡ true) × (b ≡ true)
-        both true b e = (refl, e)
-        both false b e = (cc, cc)
-
         last : (eqb k 128 ≡ true) ⊎ T (reserved k) → f k ≡ false
         last (inl q) = ap f (eqb-true k 128 q) ∙ fixed .1 .1
         last (inr q) = zeros k (omega arith) (ap (λ (b : Bool). b || leb (289 + gamma g) k) (T→true (reserved k) q))
 
         fixed-bit : (within 30 32 k ≡ true) ⊎ T (eqb k 128 || reserved k) → f k ≡ false
         fixed-bit (inl q) =
-            let p = both (leb 30 k) (leb k 32) q in fixed .1 .0 k (leb-true 30 k (p .0)) (omega (arith, leb-true k 32 (p .1)))
+            let p = and-both (leb 30 k) (leb k 32) q in fixed .1 .0 k (leb-true 30 k (p .0)) (omega (arith, leb-true k 32 (p .1)))
         fixed-bit (inr q) = last (or-true _ _ q)
 
         start : (leb 17 k && eqb (k % 17) 0 ≡ true) ⊎ T (within 30 32 k || (eqb k 128 || reserved k)) → f k ≡ false
         start (inl q) =
-            let p = both (leb 17 k) (eqb (k % 17) 0) q in start-zero k (leb-true 17 k (p .0)) (omega arith) (eqb-true (k % 17) 0 (p .1))
+            let p = and-both (leb 17 k) (eqb (k % 17) 0) q in start-zero k (leb-true 17 k (p .0)) (omega arith) (eqb-true (k % 17) 0 (p .1))
         start (inr q) = fixed-bit (or-true _ _ q)
 
         in-field : (covered (headFields r) k ≡ true) ⊎ T (leb 17 k && eqb (k % 17) 0 || (within 30 32 k || (eqb k 128 || reserved k)))
@@ -246,7 +241,7 @@ module _ (s : List ℕ) (n : ℕ) (ok : first (readTests s n) .number ≡ 0) whe
             ap (cpBit r) (sym e) ∙ run-bit ((k - 137) / 17) ((k - 137) % 17) (omega arith) (omega arith) ∙ ap f e
 
     bits : (k : ℕ) → k < 8 * cpByteCount g → cpBit r k ≡ f k
-    unfolding ignored
+    unfolding ignored cpCrc
     bits k h = go (decLe k (272 + gamma g)) (decLe (289 + gamma g) k)
       where
         go : Dec (k ≤ 272 + gamma g) → Dec (289 + gamma g ≤ k) → cpBit r k ≡ f k
@@ -258,7 +253,8 @@ module _ (s : List ℕ) (n : ℕ) (ok : first (readTests s n) .number ≡ 0) whe
             let e : 273 + gamma g + (k - (273 + gamma g)) ≡ k = omega arith in
             ap (cpBit r) (sym e) ∙ cp-crc r (k - (273 + gamma g)) (omega arith)
             ∙ ap (λ (x : ℕ). bit x (k - (273 + gamma g)))
-            (crcBelow-ext (bitIn (cpBody r)) f (272 + gamma g) (λ i b. sym (cp-body r i (omega arith)) ∙ body i (omega arith))
+            (crcOver-ext startBit (bitIn (cpBody r)) f 18 (254 + gamma g)
+            (λ j b. sym (cp-body r (18 + j) (omega arith)) ∙ body (18 + j) (omega arith))
             ∙ crc-same)
             ∙ field-bit f (273 + gamma g) 16 (k - (273 + gamma g)) (omega arith) ∙ ap f e
 

@@ -14,9 +14,8 @@ use Rattle.standard.specs.Lists.{listFrom, any, largest}
 use Rattle.standard.specs.First.{bare, test, first}
 use Rattle.standard.specs.Bits.{weight, bit, bitAt, field}
 use Rattle.standard.specs.Record.{indexOf, topIndex, halfOf, inMask}
-use Rattle.standard.specs.Crc.{crcBelow}
-use Rattle.standard.specs.Cp.{gamma, cpLength, cpByteCount, runPlace, bitIn, headFields, cpBody, cpBit, cpBytes, indexIn, maskBitIn, halfIn}
-use Rattle.standard.specs.Cp.{recordIn, crcMatches, startBitSet}
+use Rattle.standard.specs.Cp.{gamma, cpLength, cpByteCount, runPlace, startBit, cpCrc, bitIn, headFields, cpBody, cpBit, cpBytes, indexIn}
+use Rattle.standard.specs.Cp.{maskBitIn, halfIn, recordIn, crcMatches, startBitSet}
 use Rattle.standard.specs.Refusals.{countExceedsBytes, countTooSmall, syncBroken, indexTooLarge, lengthWrong, fixedBitWrong, drnTooLarge}
 use Rattle.standard.specs.Refusals.{maskAboveIndices, rateTests, recordTests, readTests, writeTests}
 use Rattle.standard.specs.Calls.{accepted, readRefusal, readRecord, writeRefusal, writeBitCount, writeBytes}
@@ -24,7 +23,7 @@ use Rattle.standard.specs.declared.Record.{Record}
 use Rattle.standard.proofs.Lists.{listFrom-is, none-any, every, every-at, T→true, largest-ext}
 use Rattle.standard.proofs.First.{None, first-none, none-first, none-split}
 use Rattle.standard.proofs.Bits.{field-ext, field-is, field-number, bitAt-bytes, length-bytesOf}
-use Rattle.standard.proofs.Crc.{crcBelow-lt, crcBelow-ext}
+use Rattle.standard.proofs.Crc.{crcOver-lt, crcOver-ext}
 use Rattle.standard.proofs.Cp.{covered, bitIn-none, cp-body, cp-head, cp-mask, cp-crc, cp-zero}
 use Rattle.standard.proofs.Refusals.{index-le, top-lt, half-zero, write-numbered}
 use Rattle.theorems.specs.RoundTrip.{Shaped, WriteThenRead}
@@ -158,13 +157,13 @@ module _ (r : Record) (shaped : Shaped r) (short : Bool) (ok : first (writeTests
   starts = none-any (λ i. f (17 * i)) 1 (16 + 8 * g) (λ i a b. start-zero i a (omega arith))
 
   crc : crcMatches f g ≡ true
-  unfolding crcMatches
+  unfolding crcMatches cpCrc
   crc =
-      let sum : ℕ = crcBelow (bitIn (cpBody r)) (272 + gamma g) in
-      eq-eqb (crcBelow f (272 + gamma g)) (field f (273 + gamma g) 16)
-      (crcBelow-ext f (bitIn (cpBody r)) (272 + gamma g) (λ n h. bit-is n (omega arith) ∙ cp-body r n (omega arith))
-      ∙ sym (field-is f (273 + gamma g) 16 (crcBelow (bitIn (cpBody r)) (272 + gamma g))
-      (λ j h. bit-is (273 + gamma g + j) (omega arith) ∙ cp-crc r j h) (crcBelow-lt (bitIn (cpBody r)) (272 + gamma g))))
+      eq-eqb (cpCrc f g) (field f (273 + gamma g) 16)
+      (crcOver-ext startBit f (bitIn (cpBody r)) 18 (254 + gamma g)
+      (λ j h. bit-is (18 + j) (omega arith) ∙ cp-body r (18 + j) (omega arith))
+      ∙ sym (field-is f (273 + gamma g) 16 (cpCrc (bitIn (cpBody r)) g)
+      (λ j h. bit-is (273 + gamma g + j) (omega arith) ∙ cp-crc r j h) (crcOver-lt startBit (bitIn (cpBody r)) 18 (254 + gamma g))))
 
   fixed : fixedBitWrong f ≡ false
   unfolding fixedBitWrong any bitIn headFields

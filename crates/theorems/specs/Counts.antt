@@ -2,19 +2,17 @@
 -- Assumes nothing.
 use mathlib.Core.Path.{_≡_}
 use mathlib.Core.Logic.{_⊎_}
-use Prim.Native.Nat.{ℕ, _+_, _≤_, _<_}
+use Prim.Native.Nat.{ℕ, suc, _+_, _≤_, _<_}
 use mathlib.Core.Bool.{Bool}
 use mathlib.Core.List.{List}
 use lib.ListN.{getD}
 use Rattle.standard.specs.Lists.{after}
 use Rattle.standard.specs.Bits.{nth}
-use Rattle.standard.specs.Record.{D}
-use Rattle.standard.specs.Frame.{dataBits, receiveAfter}
 use Rattle.standard.specs.Calls.{SendCall, sendRefusal, sendLeft, ReceiveCall, receiveRefusal, receiveLeft}
 use Rattle.standard.specs.declared.Law.{Law}
 use Rattle.standard.specs.declared.LineState.{LineState}
 use Rattle.standard.specs.declared.Record.{Record}
-use Rattle.theorems.specs.Runs.{message, sent, octetsRead, handedOver, marksGiven, Damage, Unaltered, Same, Run}
+use Rattle.theorems.specs.Runs.{message, sent, handedOver, marksGiven, sendChoices, stateBefore, Damage, Unaltered, Same, begins, Run}
 
 -- frame i has mark 0
 abbrev pub Good : List ℕ → ℕ → Type 0
@@ -29,15 +27,15 @@ AlteredMarked m xs line marked = (i : ℕ) → i < m → Unaltered xs line i ⊎
 abbrev pub ColdOrSame : LineState → LineState → Type 0
 ColdOrSame s t = (t .doubtful ≡ 24) ⊎ Same s t
 
--- what the count is worth, of the octets read from the state t on, the message, the bits handed over, the marks and the state left. The
--- state before frame i is the one that the i frames before it leave
-pub record Counted (r : Record) (l : Law) (t : LineState) (m : ℕ) (read : List ℕ) (given out : List Bool) (marked : List ℕ)
+-- what the count is worth, of the receiver's state before each frame, the choices, the message, the bits handed over, the marks and the
+-- state left
+pub record Counted (r : Record) (s : LineState) (m : ℕ) (before : ℕ → LineState) (on given out : List Bool) (marked : List ℕ)
     (left : LineState) : Type 0 where
   -- 'a good frame's bits past as many as the count before it are the bits sent'
-  pub past : (i : ℕ) → i < m → Good marked i → (k : ℕ) → k < D r → receiveAfter r l i t read .doubtful ≤ k
-      → nth out (dataBits r i + k) ≡ nth given (dataBits r i + k)
+  pub past : (i : ℕ) → i < m → Good marked i → (p : ℕ) → begins r s on i + before i .doubtful ≤ p → p < begins r s on (suc i)
+      → nth out p ≡ nth given p
   -- the state that the calls return is the one before frame m: it has the count before the next frame, 'how many coming bits to distrust'
-  pub shown : left ≡ receiveAfter r l m t read
+  pub shown : left ≡ before m
 
 -- A.1's promise, for a line that alters any frames at all: w may be all of them
 abbrev pub CountsHold : Type 0
@@ -46,8 +44,8 @@ CountsHold =
     → Run r l s t sending receiving w line m
     → AlteredMarked m (sent s sending) line (marksGiven t receiving)
     → ColdOrSame s t
-    → Counted r l t m (octetsRead t receiving) (message s sending) (handedOver t receiving) (marksGiven t receiving)
-    (after receiveLeft t receiving)
+    → Counted r s m (stateBefore r l t receiving) (sendChoices s sending) (message s sending) (handedOver t receiving)
+    (marksGiven t receiving) (after receiveLeft t receiving)
 
 -- 'a count from 0 to 24' stays one, whatever the calls, so a call after any others does not get 18
 pub record CountsKept : Type 0 where
@@ -58,15 +56,3 @@ pub record CountsKept : Type 0 where
       → sendRefusal (after sendLeft s cs) c .number ≡ 18 → ⊥
   pub receiver : (t : LineState) (cs : List ReceiveCall) (c : ReceiveCall) → t .doubtful ≤ 24
       → receiveRefusal (after receiveLeft t cs) c .number ≡ 18 → ⊥
-
--- a differing count makes no two states differ: it changes no bit and no mark. Two states that are the same but for the count, each with one
--- up to 24
-abbrev pub Alike : LineState → LineState → Type 0
-Alike s t = Same s t × (s .doubtful ≤ 24) × (t .doubtful ≤ 24)
-
--- begun in either, a list of calls reads and writes the same
-pub record CountAside : Type 0 where
-  pub given : (s t : LineState) (cs : List SendCall) → Alike s t → message s cs ≡ message t cs
-  pub octets : (s t : LineState) (cs : List SendCall) → Alike s t → sent s cs ≡ sent t cs
-  pub out : (s t : LineState) (cs : List ReceiveCall) → Alike s t → handedOver s cs ≡ handedOver t cs
-  pub marks : (s t : LineState) (cs : List ReceiveCall) → Alike s t → marksGiven s cs ≡ marksGiven t cs

@@ -12,7 +12,7 @@ use Rattle.standard.specs.Cp.{gamma, cpLength, cpBytes}
 use Rattle.standard.specs.Constellation.{member, point, sizes}
 use Rattle.standard.specs.Modulus.{product}
 use Rattle.standard.specs.Octets.{octet}
-use Rattle.standard.specs.Frame.{lineBits, fresh, sendFrames, sendAfter, receivedNumber, mark, receiveFrames}
+use Rattle.standard.specs.Frame.{Outgoing, lineBits, fresh, sendFrames, sendAfter, receivedNumber, mark, receiveFrames}
 use Rattle.standard.specs.Refusals.{indexTooLarge, intervalEmpty, recordTests}
 use Rattle.standard.specs.Calls.{readRefusal}
 use Rattle.standard.specs.declared.Law.{Law}
@@ -45,7 +45,7 @@ abbrev pub common : Record
 common = record { granted = false; drn = 1; acknowledge = false; index = replicate 6 0; mask = 63 ∷ replicate 11 0 }
 
 abbrev pub state : ℕ → Bool → LineState
-state h s = record { history = h; sign = s; doubtful = 0 }
+state h s = record { history = h; sign = s; doubtful = 0; place = 0; done = 0; sequence = replicate 12 0; lost = false }
 
 -- six positive octets of Ucodes, and of labels in the common masks
 abbrev pub ofUcodes : List ℕ → List ℕ
@@ -90,7 +90,10 @@ fault r = first (recordTests r) .number
 abbrev pub readWith : ℕ → ℕ
 readWith n = readRefusal (record { bytes = cpBytes fiveOnce; bitCount = n }) .number
 
--- ---- the table
+-- ---- the table: the control channel is off
+
+abbrev pub off : List Bool → Outgoing
+off ds = record { control = false; sequence = 0; bits = ds }
 
 abbrev pub zeros : ℕ → List Bool
 zeros n = replicate n false
@@ -101,11 +104,11 @@ ones n = replicate n true
 unfoldable pub table : List Bool
 table =
     -- B1
-    sameList (sendFrames common Mu 1 fresh (zeros 21)) (replicate 6 0x7a) ∷
+    sameList (sendFrames common Mu false 0 1 fresh (zeros 21)) (replicate 6 0x7a) ∷
     -- B2
-    (sameList (sendFrames common Mu 1 fresh (ones 21)) (0xfd ∷ 0x7e ∷ 0xff ∷ 0x7a ∷ 0xfd ∷ 0x7a ∷ []) && eqb
-    (numberOf (drop 6 (lineBits fresh (ones 21)))) 4_095
-    && eqb (sendAfter common 1 fresh (ones 21) .history) 2_097_144 && not (sendAfter common 1 fresh (ones 21) .sign)) ∷
+    (sameList (sendFrames common Mu false 0 1 fresh (ones 21)) (0xfd ∷ 0x7e ∷ 0xff ∷ 0x7a ∷ 0xfd ∷ 0x7a ∷ []) && eqb
+    (numberOf (drop 6 (lineBits fresh (off (ones 21))))) 4_095
+    && eqb (sendAfter common false 0 1 fresh (ones 21) .history) 2_097_144 && not (sendAfter common false 0 1 fresh (ones 21) .sign)) ∷
     -- B3
     (eqb (receivedNumber common Mu (replicate 6 0xff)) 46_655 && eqb (mark common Mu (replicate 6 0xff)) 7) ∷
     -- B4
@@ -116,11 +119,13 @@ table =
     -- B5
     eqb (mark common Mu (ofUcodes (0 ∷ 0 ∷ 6 ∷ 0 ∷ 6 ∷ 0 ∷ []))) 3 ∷
     -- B6
-    sameList (onesFrom 0 (receiveFrames common Mu 2 (state 0 true) (sendFrames common Mu 2 fresh (zeros 42)))) (0 ∷ 18 ∷ 23 ∷ []) ∷
+    sameList (onesFrom 0 (receiveFrames common Mu false 2 (state 0 true) (sendFrames common Mu false 0 2 fresh (zeros 42))))
+    (0 ∷ 18 ∷ 23 ∷ []) ∷
     -- B7
-    sameList (onesFrom 0 (receiveFrames common Mu 2 (state 1 false) (sendFrames common Mu 2 fresh (zeros 42)))) (17 ∷ 22 ∷ []) ∷
+    sameList (onesFrom 0 (receiveFrames common Mu false 2 (state 1 false) (sendFrames common Mu false 0 2 fresh (zeros 42))))
+    (17 ∷ 22 ∷ []) ∷
     -- B8
-    sameList (sendFrames common A 1 fresh (zeros 21)) (replicate 6 0x50) ∷
+    sameList (sendFrames common A false 0 1 fresh (zeros 21)) (replicate 6 0x50) ∷
     -- B9
     (eqb (K fiveOnce) 15 && sameList (sizes fiveOnce) (6 ∷ 6 ∷ 6 ∷ 6 ∷ 6 ∷ 5 ∷ []) && eqb (product (sizes fiveOnce)) 38_880 && eqb
     (fault fiveOnce) 0

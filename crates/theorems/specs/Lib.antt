@@ -1,5 +1,8 @@
 pub mod Runs
 pub mod Counts
+pub mod Channel
+pub mod Alike
+pub mod Off
 pub mod Examples
 pub mod RoundTrip
 pub mod Empty

@@ -1,13 +1,15 @@
--- Document 01, 'Runs of calls': demand 3 as one statement about a list of sender calls and a list of receiver calls. Assumes nothing.
+-- Document 01, 'Runs of calls': demand 3 as one statement about a list of sender calls and a list of receiver calls, with A.2's choice at
+-- each frame. Assumes nothing.
 use mathlib.Core.Path.{_≡_}
 use mathlib.Core.Logic.{_⊎_}
 use Prim.Native.Nat.{ℕ, _+_, _*_, _≤_, _<_}
 use mathlib.Core.Bool.{Bool, true, cond}
 use mathlib.Core.List.{List, [], _∷_, _++_}
-use lib.ListN.{length, getD, take}
+use lib.ListN.{length, getD, take, replicate}
+use Rattle.standard.specs.Lists.{after}
 use Rattle.standard.specs.Bits.{bitsIn, nth}
-use Rattle.standard.specs.Frame.{dataBits}
-use Rattle.standard.specs.Calls.{accepted, SendCall, sendRefusal, sendBits, sendLeft, sendOctets, ReceiveCall, receiveRefusal}
+use Rattle.standard.specs.Frame.{dataBits, Incoming, receiveNext, incomingFrames}
+use Rattle.standard.specs.Calls.{accepted, SendCall, sendRefusal, sendBits, sendLeft, sendOctets, ReceiveCall, receiveCount, receiveRefusal}
 use Rattle.standard.specs.Calls.{receiveOctets, receiveLeft, receiveBytes, receiveMarked}
 use Rattle.standard.specs.declared.Law.{Law}
 use Rattle.standard.specs.declared.LineState.{LineState}
@@ -35,7 +37,7 @@ receives st c = accepted (receiveRefusal st c)
 
 -- 'The message is the data bits that the accepted sender calls read, end to end.'
 unfoldable pub message : LineState → List SendCall → List Bool
-message = overCalls sends sendLeft (λ st c. sendBits c)
+message = overCalls sends sendLeft sendBits
 
 -- 'The octets they write, end to end, are what is sent'
 unfoldable pub sent : LineState → List SendCall → List ℕ
@@ -47,11 +49,26 @@ octetsRead = overCalls receives receiveLeft (λ st c. receiveOctets c)
 
 -- 'The data bits they write, end to end, are the bits handed over.'
 unfoldable pub handedOver : LineState → List ReceiveCall → List Bool
-handedOver = overCalls receives receiveLeft (λ st c. bitsIn (dataBits (c .cp) (c .frames)) (receiveBytes st c))
+handedOver = overCalls receives receiveLeft (λ st c. bitsIn (receiveCount st c) (receiveBytes st c))
 
 -- and the marks that they write
 unfoldable pub marksGiven : LineState → List ReceiveCall → List ℕ
 marksGiven = overCalls receives receiveLeft (λ st c. take (c .frames) (receiveMarked st c))
+
+-- A.2: 'the choice at each frame'
+unfoldable pub sendChoices : LineState → List SendCall → List Bool
+sendChoices = overCalls sends sendLeft (λ st c. replicate (c .frames) (c .control))
+
+unfoldable pub receiveChoices : LineState → List ReceiveCall → List Bool
+receiveChoices = overCalls receives receiveLeft (λ st c. replicate (c .frames) (c .control))
+
+-- the frames that they read
+unfoldable pub framesRead : LineState → List ReceiveCall → List Incoming
+framesRead = overCalls receives receiveLeft (λ st c. incomingFrames (c .control) (c .frames) (receiveOctets c))
+
+-- the receiver's state before frame i, which is the one that the i frames before it leave
+unfoldable pub stateBefore : Record → Law → LineState → List ReceiveCall → ℕ → LineState
+stateBefore r l st cs i = after (receiveNext r l) st (take i (framesRead st cs))
 
 -- 'All accepted calls of both lists have one record and one law'
 unfoldable pub SendsWith : Record → Law → LineState → List SendCall → Type 0
@@ -92,9 +109,13 @@ Beyond clean f p = Unit {0}
 Beyond (frames a b) f p = (p < f a) ⊎ (f (b + 1) + reach ≤ p)
 
 -- two line states are the same: equal history and equal last sign. A differing count (A.1) makes no two states differ: it changes no bit
--- and no mark
+-- and no mark. Of A.2's fields the frame place is a premise of its own, and the others change no data bit and no mark
 abbrev pub Same : LineState → LineState → Type 0
 Same s t = (s .history ≡ t .history) × (s .sign ≡ t .sign)
+
+-- where the data bits of frame i begin
+abbrev pub begins : Record → LineState → List Bool → ℕ → ℕ
+begins r s on i = dataBits r (nth on) (s .place) i
 
 -- a list of sender calls begun in s, the line, and a list of receiver calls begun in t
 pub record Run (r : Record) (l : Law) (s t : LineState) (sending : List SendCall) (receiving : List ReceiveCall) (w : Damage)
@@ -106,33 +127,39 @@ pub record Run (r : Record) (l : Law) (s t : LineState) (sending : List SendCall
   -- frames
   pub inside : m * 6 ≤ length line
   pub reads : octetsRead t receiving ≡ take (m * 6) line
+  -- A.2: 'In all lists that demand 3 compares, the choice at each frame is the same; if ever on, a receiver begun in another state needs
+  -- the sender's frame place'
+  pub choices : (i : ℕ) → i < m → nth (receiveChoices t receiving) i ≡ nth (sendChoices s sending) i
+  pub places : (i : ℕ) → nth (sendChoices s sending) i ≡ true → s .place ≡ t .place
 
--- what holds after them, of the message, the bits handed over and the marks
-pub record Delivered (r : Record) (w : Damage) (s t : LineState) (m : ℕ) (given out : List Bool) (marked : List ℕ) : Type 0 where
+-- what holds after them, of the choices, the message, the bits handed over and the marks
+pub record Delivered (r : Record) (w : Damage) (s t : LineState) (m : ℕ) (on given out : List Bool) (marked : List ℕ) : Type 0 where
   -- 'If m frames were read, the bits handed over are as many as the message has in its first m frames.'
-  pub held : dataBits r m ≤ length given
-  pub count : length out ≡ dataBits r m
+  pub held : begins r s on m ≤ length given
+  pub count : length out ≡ begins r s on m
   -- 'Every bit is as sent save at most those in frames a to b, the 24 bits after frame b and, where the receiver began in another state,
   -- bits 0 to 23.'
-  pub asSent : (p : ℕ) → p < dataBits r m → Beyond w (dataBits r) p → Same s t ⊎ (reach ≤ p) → nth out p ≡ nth given p
+  pub asSent : (p : ℕ) → p < begins r s on m → Beyond w (begins r s on) p → Same s t ⊎ (reach ≤ p) → nth out p ≡ nth given p
   -- 'Every frame read outside a to b has mark 0.'
   pub markCount : length marked ≡ m
   pub marks : (i : ℕ) → i < m → Outside w i → getD marked i 0 ≡ 0
   -- 'If both ends began in the same state and the line changed nothing, the receiver has handed over exactly the sent bits of the frames it
   -- read'
-  pub whole : w ≡ clean → Same s t → out ≡ take (dataBits r m) given
+  pub whole : w ≡ clean → Same s t → out ≡ take (begins r s on m) given
 
 -- demand 3
 abbrev pub RunsDeliver : Type 0
 RunsDeliver =
     (r : Record) (l : Law) (s t : LineState) (sending : List SendCall) (receiving : List ReceiveCall) (w : Damage) (line : List ℕ) (m : ℕ)
     → Run r l s t sending receiving w line m
-    → Delivered r w s t m (message s sending) (handedOver t receiving) (marksGiven t receiving)
+    → Delivered r w s t m (sendChoices s sending) (message s sending) (handedOver t receiving) (marksGiven t receiving)
 
 -- 'so two different messages of one length never give the same octets': 'as sent from one state, with one record and law'
 abbrev pub MessagesDiffer : Type 0
 MessagesDiffer =
     (r : Record) (l : Law) (s t : LineState) (one other : List SendCall) → Same s t → SendsWith r l s one → SendsWith r l t other
+    → ((i : ℕ) → nth (sendChoices s one) i ≡ nth (sendChoices t other) i)
+    → ((i : ℕ) → nth (sendChoices s one) i ≡ true → s .place ≡ t .place)
     → length (message s one) ≡ length (message t other) → sent s one ≡ sent t other → message s one ≡ message t other
 
 -- 'With drn 0 no frame is ever sent.'

@@ -1,44 +1,55 @@
--- Demand 3 and A.1 of the C functions: an accepted call does what the entry does in the state that the bytes hold. Assumes nothing.
+-- Demand 3, A.1 and A.2 of the C functions: an accepted call does what the entry does in the state that the bytes hold. Assumes nothing.
 use mathlib.Core.Path.{_≡_, refl, sym, ap, ap₂, _∙_, subst}
 use Prim.Native.Nat.{ℕ, _*_, _/_, _%_, _^_, _<_}
-use mathlib.Core.Bool.{Bool, true, false, true≢false, _||_}
-use mathlib.Core.List.{List, [], _∷_, _++_}
+use mathlib.Core.Bool.{Bool, true, false, true≢false, cond, _||_}
+use mathlib.Core.List.{List, [], _∷_, _++_, map, map-append}
 use native.Mathlib.Decide.{decLt}
 use native.Mathlib.Omega.{arith}
 use borrow.Author.Tests.{eqb-true, eq-eqb, leb-false}
 use lib.Dec.{eqb, leb, ltb, lit<}
 use lib.ListN.{length, getD, drop, take, List·getD-eq-default}
-use Rattle.standard.specs.Lists.{listFrom, largest, parts, after}
+use lib.Seq.{take-at}
+use Rattle.standard.specs.Lists.{listFrom, largest, parts, joined, each, after}
 use Rattle.standard.specs.First.{Answer, test, first}
-use Rattle.standard.specs.Bits.{bitAt, bitsIn}
+use Rattle.standard.specs.Bits.{bitAt, bitsIn, bytesOf, nth}
 use Rattle.standard.specs.Record.{noRecord}
 use Rattle.standard.specs.Cp.{indexIn, maskBitIn, halfIn, recordIn}
-use Rattle.standard.specs.Frame.{dataBits, sendNext, sendAfter, receiveNext, receiveAfter}
+use Rattle.standard.specs.Control.{sequenceBit, sequenceBytes}
+use Rattle.standard.specs.Frame.{callBits, controls, startsIn, sequenceSent, sendNext, Incoming, sequenceSoFar, saidIn, receiveNext}
+use Rattle.standard.specs.Frame.{outgoingFrames, sendAfter, incomingFrames, receiveAfter}
 use Rattle.standard.specs.Refusals.{historyTooLarge, shorter, readTests}
 use Rattle.standard.specs.Calls.{ReadCall, readCall, readRefusal, readRecord}
-use Rattle.standard.specs.Calls.{accepted, SendCall, sendCall, sendBits, sendRefusal, sendLeft, sendOctets}
+use Rattle.standard.specs.Calls.{accepted, over, SendCall, sendCall, sendBits, sendRefusal, sendLeft, sendOctets}
 use Rattle.standard.specs.Calls.{ReceiveCall, receiveCall, receiveOctets, receiveRefusal, receiveLeft, receiveBytes, receiveMarked}
+use Rattle.standard.specs.Calls.{receiveSays}
 use Rattle.standard.specs.declared.Law.{Law}
 use Rattle.standard.specs.declared.LineState.{LineState}
 use Rattle.standard.specs.declared.Record.{Record}
-use Rattle.standard.proofs.Lists.{length-listFrom, getD-list, after-keeps}
-use Rattle.standard.proofs.Bits.{field-lt}
+use Rattle.standard.specs.declared.Said.{Said}
+use Rattle.standard.specs.declared.Said.the-variants.{Nothing, Sequence, FrameLost, PatternWrong, CrcWrong}
+use Rattle.standard.proofs.Lists.{length-listFrom, getD-list, after-keeps, of-either}
+use Rattle.standard.proofs.Bits.{field-lt, length-bytesOf}
 use Rattle.standard.proofs.Scrambler.{pushAll-lt}
 use Rattle.standard.proofs.Refusals.{passed}
 use Rattle.standard.proofs.Calls.{sends-own, receives-own}
 use Rattle.theorems.specs.RoundTrip.{Shaped}
 use Rattle.theorems.specs.Runs.{overCalls, AllCalls, sends, receives, message, sent, octetsRead, handedOver, marksGiven}
-use Rattle.theorems.specs.Runs.{SendsWith, ReceivesWith, Damage, Run}
+use Rattle.theorems.specs.Runs.{sendChoices, receiveChoices, framesRead, stateBefore, SendsWith, ReceivesWith, Damage, Run}
+use Rattle.theorems.specs.Channel.{spoken, saidAt, saidGiven}
 use Rattle.theorems.proofs.Runs.{runs, messages-differ}
 use Rattle.theorems.proofs.Counts.{counts}
+use Rattle.theorems.proofs.OneSequence.{calls-say}
 use Rattle.forms.specs.Coded.{coded}
 use Rattle.forms.specs.RecordBytes.{recordLength, recordAt}
-use Rattle.forms.specs.StateBytes.{stateLength, stateBytes, stateAt}
+use Rattle.forms.specs.StateBytes.{stateLength, stateBytes, sequenceByte, stateAt}
+use Rattle.forms.specs.HeardBytes.{saidKind, heardByte, heardLength, heardBytes}
 use Rattle.forms.proofs.Back.{state-back, record-back}
-use Rattle.v91_c.specs.Interface.{lawOf, answered, frameAnswer, stateLeft, v91ReadCp, AfterSend, v91Send, AfterReceive, v91Receive}
-use Rattle.theorems_c.specs.Runs.{CSend, afterSend, cSends, cSendLeft, cMessage, cSent, CSendsWith, CReceive, afterReceive, cReceives}
-use Rattle.theorems_c.specs.Runs.{cReceiveLeft, cOctetsRead, cHandedOver, cMarksGiven, CReceivesWith, CRunsDeliver}
-use Rattle.theorems_c.specs.Runs.{CRun, CMessagesDiffer, CCountsHold, CRecordRead}
+use Rattle.v91_c.specs.Interface.{lawOf, answered, frameAnswer, stateLeft, v91ReadCp, AfterSend, v91Send, thenShort, AfterReceive}
+use Rattle.v91_c.specs.Interface.{v91Receive}
+use Rattle.theorems_c.specs.Runs.{CSend, afterSend, cSends, cSendLeft, cMessage, cSent, cSendChoices, CSendsWith, CReceive}
+use Rattle.theorems_c.specs.Runs.{afterReceive, cReceives, cReceiveLeft, cOctetsRead, cHandedOver, cMarksGiven, cReceiveChoices}
+use Rattle.theorems_c.specs.Runs.{cFramesRead, cStateBefore, CReceivesWith, CRun, CRunsDeliver, CMessagesDiffer, CCountsHold}
+use Rattle.theorems_c.specs.Runs.{cSaidAt, spokenIn, cSaidGiven, CSaid, CRecordRead}
 use Rattle.v91_c.proofs.Answers.{frame-short, frame-long}
 
 -- ---- two lists of calls: the accepted calls of one, with what each is for the other
@@ -103,15 +114,27 @@ module _ {S T C D : Type 0} {accepts : S → C → Bool} {left : S → C → S} 
 
 -- ---- the line state in its bytes
 
+-- a state that its bytes can hold
+abbrev Fits : LineState → Type 0
+Fits z = (z .history < 2 ^ 23) × (length (z .sequence) ≡ 12)
+
+-- that in its bytes is one, where its history is not refused
+fits-at : (s : List ℕ) → historyTooLarge (stateAt s) ≡ false → Fits (stateAt s)
+unfolding historyTooLarge stateAt
+fits-at s h = (leb-false (2 ^ 23) _ h, length-listFrom (sequenceByte s) 0 12)
+
+-- twelve bytes, or those that stood there
+twelve : (b : Bool) (f : ℕ → Bool) (s : List ℕ) → length s ≡ 12 → length (cond b (bytesOf 12 f) s) ≡ 12
+twelve b f s = of-either (λ x. length x ≡ 12) b (length-bytesOf 12 f)
+
 -- the bytes after an accepted call hold the state left
-left-held : (n : ℕ) (left : LineState) (s : List ℕ) → left .history < 2 ^ 23 → (n ≡ 0 → left ≡ stateAt s)
-    → stateAt (stateLeft n left s) ≡ left
+left-held : (n : ℕ) (left : LineState) (s : List ℕ) → Fits left → (n ≡ 0 → left ≡ stateAt s) → stateAt (stateLeft n left s) ≡ left
 unfolding stateLeft
 left-held n left s h none = go (eqb n 0) refl
   where
     go : (b : Bool) → eqb n 0 ≡ b → stateAt (stateLeft n left s) ≡ left
     go true e = rw e (sym (none (eqb-true n 0 e)))
-    go false e = rw e (state-back left (drop (length (stateBytes left)) s) (omega arith))
+    go false e = rw e (state-back left (drop (length (stateBytes left)) s) (omega (arith, h .0)) (h .1))
 
 -- ---- a call of frames that lends the record's bytes rec and the state's bytes s, to which the entry answers a
 
@@ -122,47 +145,53 @@ record Steps {X : Type 0} (answer : X → ℕ) (state : X → List ℕ) (s : Lis
   moved : eqb (answer x) 0 ≡ true → stateAt (state x) ≡ left
   kept : eqb (answer x) 0 ≡ false → stateAt (state x) ≡ stateAt s
 
-module _ (rec s : List ℕ) (n : ℕ) (a : Answer) (left : LineState) where
-  -- an answer of the entry that is accepted is that of the call where neither the record nor the state is short
-  either : (accepted (frameAnswer rec s a) ≡ true → accepted a ≡ true) × ((k : ℕ) → k ≡ coded (frameAnswer rec s a) → k ≡ 0
-      → accepted (frameAnswer rec s a) ≡ true)
-  either = (
-    go (ltb (length rec) recordLength || ltb (length s) stateLength) refl,
-    λ k e z. eq-eqb (frameAnswer rec s a .number) 0
-        (omega arith),
-  )
-    where
-      go : (b : Bool) → (ltb (length rec) recordLength || ltb (length s) stateLength) ≡ b → accepted (frameAnswer rec s a) ≡ true
-          → accepted a ≡ true
-      go true f e = absurd (true≢false (sym e ∙ ap accepted (frame-short rec s a f)))
-      go false f e = ap accepted (sym (frame-long rec s a f)) ∙ e
+-- an accepted call is one where neither the record nor the state is short and that the entry accepts
+entry-took : (rec s : List ℕ) (a : Answer) → accepted (frameAnswer rec s a) ≡ true → accepted a ≡ true
+entry-took rec s a = go (ltb (length rec) recordLength || ltb (length s) stateLength) refl
+  where
+    go : (b : Bool) → (ltb (length rec) recordLength || ltb (length s) stateLength) ≡ b → accepted (frameAnswer rec s a) ≡ true
+        → accepted a ≡ true
+    go true f e = absurd (true≢false (sym e ∙ ap accepted (frame-short rec s a f)))
+    go false f e = ap accepted (sym (frame-long rec s a f)) ∙ e
 
+-- and no other buffer is
+short-took : (short : Bool) (a : Answer) → accepted (thenShort short a) ≡ true → accepted a ≡ true
+unfolding thenShort
+short-took short a e = go (accepted a) refl
+  where
+    go : (b : Bool) → accepted a ≡ b → accepted a ≡ true
+    go true f = f
+    go false f = rw f at e
+
+-- the call answers b
+module _ (s : List ℕ) (n : ℕ) (a b : Answer) (left : LineState) (took : accepted b ≡ true → accepted a ≡ true) where
   steps : {X : Type 0} (answer : X → ℕ) (state : X → List ℕ) (done : X) (refused : ℕ → X)
       → answer done ≡ 0 → ((k : ℕ) → answer (refused k) ≡ k) → state done ≡ stateLeft n left s → ((k : ℕ) → state (refused k) ≡ s)
-      → (accepted a ≡ true → left .history < 2 ^ 23) → (accepted a ≡ true → n ≡ 0 → left ≡ stateAt s)
-      → Steps answer state s a left done (answered (frameAnswer rec s a) done refused)
+      → (accepted a ≡ true → Fits left) → (accepted a ≡ true → n ≡ 0 → left ≡ stateAt s)
+      → Steps answer state s a left done (answered b done refused)
   unfolding answered
-  steps {X} answer state done refused zero own put back small none = go (accepted (frameAnswer rec s a)) refl
+  steps {X} answer state done refused zero own put back fits none = go (accepted b) refl
     where
-      go : (b : Bool) → accepted (frameAnswer rec s a) ≡ b → Steps answer state s a left done (answered (frameAnswer rec s a) done refused)
+      coded-none : (k : ℕ) → k ≡ coded b → k ≡ 0 → accepted b ≡ true
+      coded-none k e z = eq-eqb (b .number) 0 (omega arith)
+
+      go : (x : Bool) → accepted b ≡ x → Steps answer state s a left done (answered b done refused)
       go true e =
-          let t = either .0 e in
           rw e
           (record {
-            taken = λ z. t;
+            taken = λ z. took e;
             made = λ z. refl;
-            moved = λ z. ap stateAt put ∙ left-held n left s (small t) (none t);
+            moved = λ z. ap stateAt put ∙ left-held n left s (fits (took e)) (none (took e));
             kept = λ z. absurd (true≢false (sym (eq-eqb _ 0 zero) ∙ z));
           })
       go false e =
-          let no : eqb (answer (refused (coded (frameAnswer rec s a)))) 0 ≡ true → ⊥ = λ z.
-          true≢false (sym (either .1 _ (own _) (eqb-true _ 0 z)) ∙ e) in
+          let no : eqb (answer (refused (coded b))) 0 ≡ true → ⊥ = λ z. true≢false (sym (coded-none _ (own _) (eqb-true _ 0 z)) ∙ e) in
           rw e
           (record {
             taken = λ z. absurd (no z);
             made = λ z. absurd (no z);
             moved = λ z. absurd (no z);
-            kept = λ z. ap stateAt (back (coded (frameAnswer rec s a)));
+            kept = λ z. ap stateAt (back (coded b));
           })
 
 -- so the calls of C, each of which is `to` for the entry, follow the entry's
@@ -176,7 +205,7 @@ follow answer state made to refusal left done step =
 -- ---- v91_send
 
 abbrev toSend : CSend → SendCall
-toSend c = sendCall (recordAt (c .rec)) (lawOf (c .aLaw)) (c .frames) (c .bits) (c .octets)
+toSend c = sendCall (recordAt (c .rec)) (lawOf (c .aLaw)) (c .frames) (c .control) (c .word) (c .bits) (c .octets)
 
 module _ (s : List ℕ) (c : CSend) where
   abbrev sendDone : AfterSend
@@ -184,24 +213,28 @@ module _ (s : List ℕ) (c : CSend) where
       let left = sendLeft (stateAt s) (toSend c) in
       record { answer = 0; octets = sendOctets (stateAt s) (toSend c); state = stateLeft (c .frames) left s }
 
-  send-small : sends (stateAt s) (toSend c) ≡ true → sendLeft (stateAt s) (toSend c) .history < 2 ^ 23
-  unfolding sendRefusal sendAfter historyTooLarge sendNext
-  send-small t =
+  send-fits : sends (stateAt s) (toSend c) ≡ true → Fits (sendLeft (stateAt s) (toSend c))
+  unfolding sendRefusal sendAfter sendNext sequenceSent sequenceBytes
+  send-fits t =
       let e = sends-own (stateAt s) (toSend c) t .state in
       let p = passed (recordAt (c .rec)) (stateAt s) (c .frames) _ _ t in
       rw e
-      (after-keeps sendNext (λ z. z .history < 2 ^ 23) (λ st f h. pushAll-lt (st .history) _ h) (stateAt s) _
-      (leb-false (2 ^ 23) _ (p .history)))
+      (after-keeps sendNext Fits
+      (λ st f h. (
+        pushAll-lt (st .history) _ (h .0),
+        twelve (startsIn st (f .control)) (sequenceBit (f .sequence)) (st .sequence) (h .1),
+      )) (stateAt s) _ (fits-at s (p .history)))
 
   send-none : sends (stateAt s) (toSend c) ≡ true → c .frames ≡ 0 → sendLeft (stateAt s) (toSend c) ≡ stateAt s
-  unfolding sendAfter parts after
+  unfolding sendAfter outgoingFrames after
   send-none t z = sends-own (stateAt s) (toSend c) t .state ∙ rw z
 
   send-steps : Steps (λ x. x .answer) (λ x. x .state) s (sendRefusal (stateAt s) (toSend c)) (sendLeft (stateAt s) (toSend c)) sendDone
       (afterSend s c)
   unfolding v91Send
-  send-steps = steps (c .rec) s (c .frames) _ _ (λ x. x .answer) (λ x. x .state) sendDone _ refl (λ k. refl) refl (λ k. refl) send-small
-      send-none
+  send-steps =
+      steps s (c .frames) _ _ _ (entry-took (c .rec) s _) (λ x. x .answer) (λ x. x .state) sendDone _ refl (λ k. refl) refl (λ k. refl)
+      send-fits send-none
 
 send-follows : Follows cSends cSendLeft toSend sends sendLeft stateAt
 send-follows = follow (λ x. x .answer) (λ x. x .state) afterSend toSend sendRefusal sendLeft sendDone send-steps
@@ -220,6 +253,10 @@ module _ (s : List ℕ) (cs : List CSend) where
   same-sent =
       same-parts send-follows _ _ (λ s c e. ap (λ (x : AfterSend). take (6 * c .frames) (x .octets)) (send-steps s c .made e)) s cs
 
+  same-send-choices : cSendChoices s cs ≡ sendChoices (stateAt s) sendCalls
+  unfolding cSendChoices sendChoices
+  same-send-choices = same-parts send-follows _ _ (λ s c e. refl) s cs
+
   same-sender : (r : Record) (l : Law) → CSendsWith r l s cs → SendsWith r l (stateAt s) sendCalls
   unfolding CSendsWith SendsWith
   same-sender r l = same-all send-follows _ _ (λ c p. p) s cs
@@ -227,7 +264,7 @@ module _ (s : List ℕ) (cs : List CSend) where
 -- ---- v91_receive
 
 abbrev toReceive : CReceive → ReceiveCall
-toReceive c = receiveCall (recordAt (c .rec)) (lawOf (c .aLaw)) (c .frames) (c .octets) (c .bits) (c .marks)
+toReceive c = receiveCall (recordAt (c .rec)) (lawOf (c .aLaw)) (c .frames) (c .control) (c .octets) (c .bits) (c .marks)
 
 module _ (s : List ℕ) (c : CReceive) where
   abbrev receiveDone : AfterReceive
@@ -236,27 +273,34 @@ module _ (s : List ℕ) (c : CReceive) where
         answer = 0;
         bits = receiveBytes (stateAt s) (toReceive c);
         marks = receiveMarked (stateAt s) (toReceive c);
+        heard = over (heardBytes (receiveSays (stateAt s) (toReceive c))) (c .heard);
         state = stateLeft (c .frames) (receiveLeft (stateAt s) (toReceive c)) s;
       }
 
-  receive-small : receives (stateAt s) (toReceive c) ≡ true → receiveLeft (stateAt s) (toReceive c) .history < 2 ^ 23
-  unfolding receiveRefusal receiveAfter historyTooLarge receiveNext
-  receive-small t =
+  receive-fits : receives (stateAt s) (toReceive c) ≡ true → Fits (receiveLeft (stateAt s) (toReceive c))
+  unfolding receiveRefusal receiveAfter receiveNext
+  receive-fits t =
       let e = receives-own (stateAt s) (toReceive c) t .state in
       let p = passed (recordAt (c .rec)) (stateAt s) (c .frames) _ _ t in
+      let r = recordAt (c .rec) in
+      let l = lawOf (c .aLaw) in
       rw e
-      (after-keeps (receiveNext (recordAt (c .rec)) (lawOf (c .aLaw))) (λ z. z .history < 2 ^ 23)
-      (λ st f h. pushAll-lt (st .history) _ h) (stateAt s) _ (leb-false (2 ^ 23) _ (p .history)))
+      (after-keeps (receiveNext r l) Fits
+      (λ st y h. (
+        pushAll-lt (st .history) _ (h .0),
+        twelve (controls st (y .control)) (nth (sequenceSoFar r l st y)) (st .sequence) (h .1),
+      )) (stateAt s) _ (fits-at s (p .history)))
 
   receive-none : receives (stateAt s) (toReceive c) ≡ true → c .frames ≡ 0 → receiveLeft (stateAt s) (toReceive c) ≡ stateAt s
-  unfolding receiveAfter parts after
+  unfolding receiveAfter incomingFrames parts after
   receive-none t z = receives-own (stateAt s) (toReceive c) t .state ∙ rw z
 
   receive-steps : Steps (λ x. x .answer) (λ x. x .state) s (receiveRefusal (stateAt s) (toReceive c))
       (receiveLeft (stateAt s) (toReceive c)) receiveDone (afterReceive s c)
   unfolding v91Receive
-  receive-steps = steps (c .rec) s (c .frames) _ _ (λ x. x .answer) (λ x. x .state) receiveDone _ refl (λ k. refl) refl (λ k. refl)
-      receive-small receive-none
+  receive-steps =
+      steps s (c .frames) _ _ _ (λ e. entry-took (c .rec) s _ (short-took _ _ e)) (λ x. x .answer) (λ x. x .state) receiveDone _
+      refl (λ k. refl) refl (λ k. refl) receive-fits receive-none
 
 receive-follows : Follows cReceives cReceiveLeft toReceive receives receiveLeft stateAt
 receive-follows = follow (λ x. x .answer) (λ x. x .state) afterReceive toReceive receiveRefusal receiveLeft receiveDone receive-steps
@@ -273,12 +317,25 @@ module _ (s : List ℕ) (cs : List CReceive) where
   unfolding cHandedOver handedOver
   same-given =
       same-parts receive-follows _ _
-      (λ s c e. ap (λ (x : AfterReceive). bitsIn (dataBits (recordAt (c .rec)) (c .frames)) (x .bits)) (receive-steps s c .made e)) s cs
+      (λ s c e. ap (λ (x : AfterReceive). bitsIn (callBits (recordAt (c .rec)) (c .control) (stateAt s .place) (c .frames)) (x .bits))
+      (receive-steps s c .made e)) s cs
 
   same-marks : cMarksGiven s cs ≡ marksGiven (stateAt s) receiveCalls
   unfolding cMarksGiven marksGiven
   same-marks =
       same-parts receive-follows _ _ (λ s c e. ap (λ (x : AfterReceive). take (c .frames) (x .marks)) (receive-steps s c .made e)) s cs
+
+  same-receive-choices : cReceiveChoices s cs ≡ receiveChoices (stateAt s) receiveCalls
+  unfolding cReceiveChoices receiveChoices
+  same-receive-choices = same-parts receive-follows _ _ (λ s c e. refl) s cs
+
+  same-frames : cFramesRead s cs ≡ framesRead (stateAt s) receiveCalls
+  unfolding cFramesRead framesRead receiveOctets
+  same-frames = same-parts receive-follows _ _ (λ s c e. refl) s cs
+
+  same-before : (r : Record) (l : Law) → cStateBefore r l s cs ≡ stateBefore r l (stateAt s) receiveCalls
+  unfolding cStateBefore stateBefore
+  same-before r l = ap {B = ℕ → LineState} (λ (ys : List Incoming) (i : ℕ). after (receiveNext r l) (stateAt s) (take i ys)) same-frames
 
   same-receiver : (r : Record) (l : Law) → CReceivesWith r l s cs → ReceivesWith r l (stateAt s) receiveCalls
   unfolding CReceivesWith ReceivesWith
@@ -296,19 +353,22 @@ same-run r l s t sending receiving w line m run =
       carried = rw (same-sent s sending) at (run .carried);
       inside = run .inside;
       reads = sym (same-read t receiving) ∙ run .reads;
+      choices = rw (same-receive-choices t receiving, same-send-choices s sending) at (run .choices);
+      places = rw (same-send-choices s sending) at (run .places);
     }
 
 pub c-runs : CRunsDeliver
 c-runs r l s t sending receiving w line m run =
-    rw (same-message s sending, same-given t receiving, same-marks t receiving)
+    rw (same-send-choices s sending, same-message s sending, same-given t receiving, same-marks t receiving)
     (runs r l (stateAt s) (stateAt t) (sendCalls s sending) (receiveCalls t receiving) w line m
     (same-run r l s t sending receiving w line m run))
 
 pub c-messages-differ : CMessagesDiffer
-c-messages-differ r l s t one other k p q long octets =
+c-messages-differ r l s t one other k p q on places long octets =
     same-message s one
     ∙ messages-differ r l (stateAt s) (stateAt t) (sendCalls s one) (sendCalls t other) k (same-sender s one r l p)
-    (same-sender t other r l q) (ap length (sym (same-message s one)) ∙ long ∙ ap length (same-message t other))
+    (same-sender t other r l q) (rw (same-send-choices s one, same-send-choices t other) at on) (rw (same-send-choices s one) at places)
+    (ap length (sym (same-message s one)) ∙ long ∙ ap length (same-message t other))
     (sym (same-sent s one) ∙ octets ∙ same-sent t other)
     ∙ sym (same-message t other)
 
@@ -316,9 +376,53 @@ c-messages-differ r l s t one other k p q long octets =
 
 pub c-counts : CCountsHold
 c-counts r l s t sending receiving w line m run marked begun =
-    rw (same-read t receiving, same-message s sending, same-given t receiving, same-marks t receiving, same-left receive-follows t receiving)
+    rw (
+      same-before t receiving r l,
+      same-send-choices s sending,
+      same-message s sending,
+      same-given t receiving,
+      same-marks t receiving,
+      same-left receive-follows t receiving,
+    )
     (counts r l (stateAt s) (stateAt t) (sendCalls s sending) (receiveCalls t receiving) w line m
     (same-run r l s t sending receiving w line m run) (rw (same-sent s sending, same-marks t receiving) at marked) begun)
+
+-- ---- A.2: what is said of sequences
+
+-- in bytes: byte 0 of what is said is 0 for nothing and else is not
+spoken-bytes : (x : Said) → spokenIn (heardBytes x) ≡ map heardBytes (spoken x)
+unfolding heardBytes heardByte saidKind listFrom
+spoken-bytes Nothing = refl
+spoken-bytes (Sequence w) = refl
+spoken-bytes FrameLost = refl
+spoken-bytes PatternWrong = refl
+spoken-bytes CrcWrong = refl
+
+-- the first bytes of `heard` after an accepted call
+heard-first : (x : Said) (heard : List ℕ) → take heardLength (over (heardBytes x) heard) ≡ heardBytes x
+unfolding heardBytes
+heard-first x heard = take-at (heardBytes x) (drop (length (heardBytes x)) heard) heardLength (length-listFrom (heardByte x) 0 heardLength)
+
+module _ {S C X Y : Type 0} (accepts : S → C → Bool) (left : S → C → S) (part : S → C → List X) (f : X → Y) where
+  over-map : (s : S) (cs : List C) → overCalls accepts left (λ s c. map f (part s c)) s cs ≡ map f (overCalls accepts left part s cs)
+  unfolding overCalls
+  over-map s [] = refl
+  over-map s (c ∷ cs) = ap₂ _++_ (go (accepts s c)) (over-map (left s c) cs) ∙ sym (map-append f (cond (accepts s c) (part s c) []) _)
+    where
+      go : (b : Bool) → cond b (map f (part s c)) [] ≡ map f (cond b (part s c) [])
+      go true = refl
+      go false = refl
+
+pub c-said : CSaid
+unfolding cSaidGiven saidGiven cSaidAt saidAt
+c-said r l t receiving w =
+    same-parts receive-follows _ (λ st c. map heardBytes (spoken (receiveSays st c)))
+    (λ s c e. ap (λ (x : AfterReceive). spokenIn (take heardLength (x .heard))) (receive-steps s c .made e)
+    ∙ ap spokenIn (heard-first (receiveSays (stateAt s) (toReceive c)) (c .heard)) ∙ spoken-bytes (receiveSays (stateAt s) (toReceive c)))
+    t receiving
+    ∙ over-map receives receiveLeft (λ st c. spoken (receiveSays st c)) heardBytes (stateAt t) (receiveCalls t receiving)
+    ∙ ap (map heardBytes) (calls-say r l (stateAt t) (receiveCalls t receiving) (same-receiver t receiving r l w)
+    ∙ ap (λ (ys : List Incoming). joined (each (saidIn r l) (receiveNext r l) (stateAt t) ys)) (sym (same-frames t receiving)))
 
 -- ---- the record that v91_read_cp leaves
 

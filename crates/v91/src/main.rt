@@ -22,9 +22,12 @@ fn help(e: Ends) -> bool {
   v91 cp FILE                           a CP sequence in plain words
   v91 send CPFILE LAW < data > octets   data to the line; zero bits fill the last frame
   v91 send CPFILE LAW exact             the same, but bits at the end that fill no frame are not sent
+  v91 send CPFILE LAW control           the same, but the octets begin with a control frame, and the control channel is on;
+                                        cleardown and retrain after that ask for it, and BITS, up to 54 digits 0 and 1, are its data
   v91 receive CPFILE LAW < octets > data
   v91 receive CPFILE LAW BYTES          the same, but no more than so many bytes of data
   v91 receive CPFILE LAW cold           the same, but it begins cold: the first 24 bits are doubtful
+  v91 receive CPFILE LAW control        the same, but the octets are to begin with a control frame, and it says what the channel says
   v91 linear LAW < octets > text        linear samples, one a line
   v91 dil LAW > octets                  the default DIL, V.91's learning sequence: 1,500 octets
   v91 plan K LAW SPACING CEILING        the mask for K that keeps SPACING with the least sum of squares, and a picture of it
@@ -74,8 +77,8 @@ pub(crate) fn command_of(words: &[u8]) -> usize {
 pub(crate) fn run_command(e: Ends, words: &[u8], command: usize) -> bool {
     match command {
         1 => has(e, words, 2, 2) && output::cp(e, words),
-        2 => has(e, words, 3, 5) && stream::send(e, words),
-        3 => has(e, words, 3, 6) && stream::receive(e, words),
+        2 => has(e, words, 3, 9) && stream::send(e, words),
+        3 => has(e, words, 3, 7) && stream::receive(e, words),
         4 => has(e, words, 2, 3) && stream::linear(e, words),
         5 => has(e, words, 2, 2) && output::dil(e, words),
         6 => has(e, words, 5, 6) && planner::plan(e, words),
@@ -83,7 +86,7 @@ pub(crate) fn run_command(e: Ends, words: &[u8], command: usize) -> bool {
         8 => help(e),
         9 => help(e),
         10 => help(e),
-        11 => write(e, b"v91 4\n"),
+        11 => write(e, b"v91 5\n"),
         _ => unknown(e, words),
     }
 }

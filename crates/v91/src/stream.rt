@@ -1,13 +1,24 @@
 // The commands send, receive and linear: what they ask for, and what they say of it at the end.
+use crate::asked::Asked;
+use crate::asked::CLEARDOWN;
+use crate::asked::COLD;
+use crate::asked::CONTROL;
+use crate::asked::DIGITS;
+use crate::asked::EXACT;
 use crate::asked::Named;
+use crate::asked::PROGRESS;
+use crate::asked::RETRAIN;
 use crate::asked::asked_from;
+use crate::asked::has;
 use crate::asked::law_at;
+use crate::asked::only;
 use crate::cp_file::load_cp;
 use console::Ends;
 use console::all_well;
 use console::fail;
 use console::is_over;
 use console::tell;
+use line::Channel;
 use line::Received;
 use line::Sent;
 use standard::LineState;
@@ -44,17 +55,42 @@ fn sum_up_sent(e: Ends, s: Sent) -> bool {
     all_well(e, trouble)
 }
 
-// Sends as the words ask: CPFILE, LAW, and then `exact` and `progress` where they are wanted.
+// The words that send takes: with `control` those for its sequences too.
+fn taken_by_send(control: bool) -> u32 {
+    if control {
+        return EXACT | PROGRESS | CONTROL | CLEARDOWN | RETRAIN | DIGITS;
+    }
+    EXACT | PROGRESS | CONTROL
+}
+
+// The data of the sequences: BITS, or zeros where there are none.
+fn data_of(a: Asked) -> u64 {
+    if has(a, DIGITS) {
+        return a.number;
+    }
+    0
+}
+
+// The control channel that is asked for.
+fn channel_of(a: Asked) -> Channel {
+    Channel {
+        on: has(a, CONTROL),
+        word: has(a, CLEARDOWN) as u64 | (has(a, RETRAIN) as u64) << 1 | data_of(a) << 2,
+    }
+}
+
+// Sends as the words ask: CPFILE, LAW, and then `exact`, `progress`, `control`, `cleardown`, `retrain` and BITS where they are wanted.
 pub(crate) fn send(e: Ends, words: &[u8]) -> bool {
     let named = law_at(e, words, 2);
     let Named::Is(law) = named else {
         return false;
     };
-    let a = asked_from(e, words, 3);
-    if !a.known | a.cold | (a.wanted != u64::MAX) {
+    let a = asked_from(words, 3, true);
+    if !only(a, taken_by_send(has(a, CONTROL))) {
         return fail(
             e,
-            b"after LAW send takes the words exact and progress alone",
+            b"after LAW send takes the words exact, progress and control alone, and after control cleardown, retrain and up to 54 binary \
+            digits",
             0,
         );
     }
@@ -62,7 +98,14 @@ pub(crate) fn send(e: Ends, words: &[u8]) -> bool {
     if !loaded.found {
         return false;
     }
-    let sent = line::send_stream(e, loaded.record, law, a.exact, a.shows);
+    let sent = line::send_stream(
+        e,
+        loaded.record,
+        law,
+        channel_of(a),
+        has(a, EXACT),
+        e.shows | has(a, PROGRESS),
+    );
     sum_up_sent(e, sent)
 }
 
@@ -116,17 +159,17 @@ fn begun(cold: bool) -> LineState {
     fresh_state()
 }
 
-// Receives as the words ask: CPFILE, LAW, and then BYTES, `cold` and `progress` where they are wanted.
+// Receives as the words ask: CPFILE, LAW, and then BYTES, `cold`, `control` and `progress` where they are wanted.
 pub(crate) fn receive(e: Ends, words: &[u8]) -> bool {
     let named = law_at(e, words, 2);
     let Named::Is(law) = named else {
         return false;
     };
-    let a = asked_from(e, words, 3);
-    if !a.known | a.exact {
+    let a = asked_from(words, 3, false);
+    if !only(a, COLD | CONTROL | PROGRESS | DIGITS) {
         return fail(
             e,
-            b"after LAW receive takes BYTES, a number of 1 to 18 digits, and the words cold and progress alone",
+            b"after LAW receive takes BYTES, a number of 1 to 18 digits, and the words cold, control and progress alone",
             0,
         );
     }
@@ -134,10 +177,18 @@ pub(crate) fn receive(e: Ends, words: &[u8]) -> bool {
     if !loaded.found {
         return false;
     }
-    let got = line::receive_stream(e, loaded.record, law, begun(a.cold), a.wanted, a.shows);
+    let got = line::receive_stream(
+        e,
+        loaded.record,
+        law,
+        has(a, CONTROL),
+        begun(has(a, COLD)),
+        a.number,
+        e.shows | has(a, PROGRESS),
+    );
     say_received(e, got);
     let trouble = got.trouble;
-    all_well(e, trouble) && all_came(e, a.wanted != u64::MAX, got.wanted)
+    all_well(e, trouble) && all_came(e, has(a, DIGITS), got.wanted)
 }
 
 // Writes linear samples as the words ask: LAW, and then `progress` where it is wanted.
@@ -146,11 +197,11 @@ pub(crate) fn linear(e: Ends, words: &[u8]) -> bool {
     let Named::Is(law) = named else {
         return false;
     };
-    let a = asked_from(e, words, 2);
-    if !a.known | a.exact | a.cold | (a.wanted != u64::MAX) {
+    let a = asked_from(words, 2, false);
+    if !only(a, PROGRESS) {
         return fail(e, b"after LAW linear takes the word progress alone", 0);
     }
-    let sampled = line::linear_stream(e, law, a.shows);
+    let sampled = line::linear_stream(e, law, e.shows | has(a, PROGRESS));
     let trouble = sampled.trouble;
     all_well(e, trouble)
 }

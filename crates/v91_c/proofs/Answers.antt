@@ -15,12 +15,14 @@ use Rattle.standard.specs.Cp.{cpByteCount}
 use Rattle.standard.specs.Refusals.{outcomeAnswer, shorter, recordTests, readTests, writeTests, planTests}
 use Rattle.standard.specs.Calls.{accepted, over, readCall, readRefusal, readRecord, WriteCall, writeCall, writeRefusal, writeBitCount}
 use Rattle.standard.specs.Calls.{writeBytes, sendCall, sendRefusal, sendLeft, sendOctets, receiveCall, receiveRefusal, receiveLeft}
-use Rattle.standard.specs.Calls.{receiveBytes, receiveMarked, dilCall, dilRefusal, dilOctets, planCall, planRefusal, planHalves, planSum}
+use Rattle.standard.specs.Calls.{receiveBytes, receiveMarked, receiveSays, dilCall, dilRefusal, dilOctets, planCall, planRefusal}
+use Rattle.standard.specs.Calls.{planHalves, planSum}
 use Rattle.standard.specs.declared.Law.{Law}
 use Rattle.standard.specs.declared.LineState.{LineState}
 use Rattle.standard.specs.declared.Outcome.{Outcome}
 use Rattle.standard.specs.declared.Outcome.the-variants.{Done, Refused}
 use Rattle.standard.specs.declared.Record.{Record}
+use Rattle.standard.specs.declared.Said.{Said}
 use Rattle.standard.proofs.Lists.{or-none}
 use Rattle.standard.proofs.First.{numbered, none-first, first-append, first-left}
 use Rattle.standard.proofs.Stages.{refused-not}
@@ -30,7 +32,8 @@ use Rattle.forms.specs.Coded.{coded}
 use Rattle.forms.specs.RecordBytes.{recordLength, recordBytes, recordAt}
 use Rattle.forms.specs.StateBytes.{stateLength, stateBytes, stateAt}
 use Rattle.forms.specs.PlanBytes.{planLength, planBytes}
-use Rattle.v91_c.specs.Interface.{lawOf, answered, frameAnswer, stateLeft, v91ReadCp, v91WriteCp, v91Send, v91Receive}
+use Rattle.forms.specs.HeardBytes.{heardLength, heardBytes}
+use Rattle.v91_c.specs.Interface.{lawOf, answered, frameAnswer, stateLeft, thenShort, v91ReadCp, v91WriteCp, v91Send, v91Receive}
 use Rattle.v91_c.specs.Interface.{v91SendDil, v91Plan}
 
 -- ---- an outcome in one number: 0 where nothing is refused, and only there
@@ -167,49 +170,88 @@ module _ (o : Outcome) (k : ℕ) (ek : k ≡ coded (outcomeAnswer o)) (n : ℕ) 
 
 -- ---- v91_send
 
-module _ (rec : List ℕ) (a : Bool) (n : ℕ) (bits octets state : List ℕ) where
+module _ (rec : List ℕ) (a : Bool) (n : ℕ) (on : Bool) (w : ℕ) (bits octets state : List ℕ) where
   pub send-short : (ltb (length rec) recordLength || ltb (length state) stateLength) ≡ true
-      → v91Send rec a n bits octets state ≡ record { answer = 16; octets = octets; state = state }
+      → v91Send rec a n on w bits octets state ≡ record { answer = 16; octets = octets; state = state }
   unfolding v91Send answered
   send-short h = rw (frame-short rec state _ h)
 
   pub send-ended : (ltb (length rec) recordLength || ltb (length state) stateLength) ≡ false
       → (r : Record) → r ≡ recordAt rec → (st : LineState) → st ≡ stateAt state → (l : Law) → l ≡ lawOf a
-      → (o : Outcome) → outcomeAnswer o ≡ sendRefusal st (sendCall r l n bits octets)
-      → (left : LineState) → left ≡ sendLeft st (sendCall r l n bits octets)
-      → (os : List ℕ) → os ≡ sendOctets st (sendCall r l n bits octets) → (k : ℕ) → k ≡ coded (outcomeAnswer o)
-      → (s : List ℕ) → Ended o n left state s → v91Send rec a n bits octets state ≡ record { answer = k; octets = os; state = s }
+      → (o : Outcome) → outcomeAnswer o ≡ sendRefusal st (sendCall r l n on w bits octets)
+      → (left : LineState) → left ≡ sendLeft st (sendCall r l n on w bits octets)
+      → (os : List ℕ) → os ≡ sendOctets st (sendCall r l n on w bits octets) → (k : ℕ) → k ≡ coded (outcomeAnswer o)
+      → (s : List ℕ) → Ended o n left state s → v91Send rec a n on w bits octets state ≡ record { answer = k; octets = os; state = s }
   unfolding v91Send answered sendOctets
   send-ended h r er st es l el o eo left e os eos k ek s q = go (accepted (outcomeAnswer o)) refl
     where
-      go : (b : Bool) → accepted (outcomeAnswer o) ≡ b → v91Send rec a n bits octets state
+      go : (b : Bool) → accepted (outcomeAnswer o) ≡ b → v91Send rec a n on w bits octets state
           ≡ record { answer = k; octets = os; state = s }
       go true f = rw (frame-long rec state _ h, eos, q, e, ← er, ← es, ← el, ← eo, f, ek, coded-zero o f)
       go false f = rw (frame-long rec state _ h, eos, q, ← er, ← es, ← el, ← eo, f, ek)
 
 -- ---- v91_receive
 
-module _ (rec : List ℕ) (a : Bool) (n : ℕ) (octets bits marks state : List ℕ) where
-  pub receive-short : (ltb (length rec) recordLength || ltb (length state) stateLength) ≡ true
-      → v91Receive rec a n octets bits marks state ≡ record { answer = 16; bits = bits; marks = marks; state = state }
-  unfolding v91Receive answered
+-- a short `heard`
+module _ (o : Outcome) (k : ℕ) (ek : k ≡ coded (outcomeAnswer o)) where
+  pub unheard-done : k ≡ 0 → 17 ≡ coded (thenShort true (outcomeAnswer o))
+  unfolding thenShort first
+  unheard-done z = rw (code-done o k ek z)
+
+  pub unheard-refused : (k ≡ 0 → ⊥) → k ≡ coded (thenShort true (outcomeAnswer o))
+  unfolding thenShort
+  unheard-refused p = rw (code-refused o k ek p) ek
+
+  pub heard-put : k ≡ 0 → (x y : List ℕ) → x ≡ answered (outcomeAnswer o) x (λ n. y)
+  unfolding answered
+  heard-put z x y = rw (code-done o k ek z)
+
+  pub heard-kept : (k ≡ 0 → ⊥) → (x y : List ℕ) → y ≡ answered (outcomeAnswer o) x (λ n. y)
+  unfolding answered
+  heard-kept p x y = rw (code-refused o k ek p)
+
+-- the answer with a short `heard` is no 0
+short-not : (o : Outcome) → accepted (thenShort true (outcomeAnswer o)) ≡ false
+unfolding thenShort first
+short-not Done = refl
+short-not (Refused x) = let e = refused-not (Refused x) x _ refl refl in rw e e
+
+module _ (rec : List ℕ) (a : Bool) (n : ℕ) (on : Bool) (octets bits marks heard state : List ℕ) where
+  abbrev Unchanged : ℕ → Type 0
+  Unchanged k =
+      v91Receive rec a n on octets bits marks heard state
+      ≡ record { answer = k; bits = bits; marks = marks; heard = heard; state = state }
+
+  pub receive-short : (ltb (length rec) recordLength || ltb (length state) stateLength) ≡ true → Unchanged 16
+  unfolding v91Receive answered thenShort
   receive-short h = rw (frame-short rec state _ h)
 
-  pub receive-ended : (ltb (length rec) recordLength || ltb (length state) stateLength) ≡ false
-      → (r : Record) → r ≡ recordAt rec → (st : LineState) → st ≡ stateAt state → (l : Law) → l ≡ lawOf a
-      → (o : Outcome) → outcomeAnswer o ≡ receiveRefusal st (receiveCall r l n octets bits marks)
-      → (left : LineState) → left ≡ receiveLeft st (receiveCall r l n octets bits marks)
-      → (bs : List ℕ) → bs ≡ receiveBytes st (receiveCall r l n octets bits marks)
-      → (ms : List ℕ) → ms ≡ receiveMarked st (receiveCall r l n octets bits marks) → (k : ℕ) → k ≡ coded (outcomeAnswer o)
-      → (s : List ℕ) → Ended o n left state s
-      → v91Receive rec a n octets bits marks state ≡ record { answer = k; bits = bs; marks = ms; state = s }
-  unfolding v91Receive answered receiveBytes receiveMarked
-  receive-ended h r er st es l el o eo left e bs eb ms em k ek s q = go (accepted (outcomeAnswer o)) refl
-    where
-      go : (b : Bool) → accepted (outcomeAnswer o) ≡ b → v91Receive rec a n octets bits marks state
-          ≡ record { answer = k; bits = bs; marks = ms; state = s }
-      go true f = rw (frame-long rec state _ h, eb, em, q, e, ← er, ← es, ← el, ← eo, f, ek, coded-zero o f)
-      go false f = rw (frame-long rec state _ h, eb, em, q, ← er, ← es, ← el, ← eo, f, ek)
+  module _ (h : (ltb (length rec) recordLength || ltb (length state) stateLength) ≡ false) (r : Record) (er : r ≡ recordAt rec)
+      (st : LineState) (es : st ≡ stateAt state) (o : Outcome) where
+    pub receive-unheard : length heard < heardLength
+        → ((l : Law) → outcomeAnswer o ≡ receiveRefusal st (receiveCall r l n on octets bits marks))
+        → (k : ℕ) → k ≡ coded (thenShort true (outcomeAnswer o)) → Unchanged k
+    unfolding v91Receive answered
+    receive-unheard short eo k ek =
+        rw (frame-long rec state _ h, lt-ltb _ _ short, ← er, ← es, ← eo (lawOf a), short-not o, ek)
+
+    pub receive-ended : heardLength ≤ length heard → (l : Law) → l ≡ lawOf a
+        → outcomeAnswer o ≡ receiveRefusal st (receiveCall r l n on octets bits marks)
+        → (left : LineState) → left ≡ receiveLeft st (receiveCall r l n on octets bits marks)
+        → (said : Said) → said ≡ receiveSays st (receiveCall r l n on octets bits marks)
+        → (bs : List ℕ) → bs ≡ receiveBytes st (receiveCall r l n on octets bits marks)
+        → (ms : List ℕ) → ms ≡ receiveMarked st (receiveCall r l n on octets bits marks) → (k : ℕ) → k ≡ coded (outcomeAnswer o)
+        → (hs : List ℕ) → hs ≡ answered (outcomeAnswer o) (over (heardBytes said) heard) (λ k. heard)
+        → (s : List ℕ) → Ended o n left state s
+        → v91Receive rec a n on octets bits marks heard state ≡ record { answer = k; bits = bs; marks = ms; heard = hs; state = s }
+    unfolding v91Receive answered thenShort first receiveBytes receiveMarked
+    receive-ended long l el eo left e said ed bs eb ms em k ek hs eh s q = go (accepted (outcomeAnswer o)) refl
+      where
+        go : (b : Bool) → accepted (outcomeAnswer o) ≡ b → v91Receive rec a n on octets bits marks heard state
+            ≡ record { answer = k; bits = bs; marks = ms; heard = hs; state = s }
+        go true f =
+            rw (frame-long rec state _ h, le-ltb _ _ long, eb, em, eh, ed, q, e, ← er, ← es, ← el, ← eo, f, ek, coded-zero o f)
+        go false f = rw (frame-long rec state _ h, le-ltb _ _ long, eb, em, eh, q, ← er, ← es, ← el, ← eo, f, f, ek)
 
 -- ---- v91_send_dil
 

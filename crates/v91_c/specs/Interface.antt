@@ -9,7 +9,7 @@ use Rattle.standard.specs.Refusals.{shorter, readTests, planTests}
 use Rattle.standard.specs.Dil.{defaultDil}
 use Rattle.standard.specs.Calls.{accepted, over, readCall, readRecord, writeCall, writeRefusal, writeBitCount, writeBytes}
 use Rattle.standard.specs.Calls.{sendCall, sendRefusal, sendLeft, sendOctets}
-use Rattle.standard.specs.Calls.{receiveCall, receiveRefusal, receiveLeft, receiveBytes, receiveMarked}
+use Rattle.standard.specs.Calls.{receiveCall, receiveRefusal, receiveLeft, receiveBytes, receiveMarked, receiveSays}
 use Rattle.standard.specs.Calls.{dilCall, dilRefusal, dilOctets, planCall, planHalves, planSum}
 use Rattle.standard.specs.declared.Law.{Law}
 use Rattle.standard.specs.declared.Law.the-variants.{Mu, A}
@@ -18,6 +18,7 @@ use Rattle.forms.specs.Coded.{coded}
 use Rattle.forms.specs.RecordBytes.{recordLength, recordBytes, recordAt}
 use Rattle.forms.specs.StateBytes.{stateLength, stateBytes, stateAt}
 use Rattle.forms.specs.PlanBytes.{planLength, planBytes}
+use Rattle.forms.specs.HeardBytes.{heardLength, heardBytes}
 
 -- the flag a_law
 abbrev pub lawOf : Bool → Law
@@ -72,34 +73,40 @@ pub record AfterSend : Type 0 where
   pub octets : List ℕ
   pub state : List ℕ
 
-unfoldable pub v91Send : List ℕ → Bool → ℕ → List ℕ → List ℕ → List ℕ → AfterSend
-v91Send rec aLaw frames bits octets state =
+unfoldable pub v91Send : List ℕ → Bool → ℕ → Bool → ℕ → List ℕ → List ℕ → List ℕ → AfterSend
+v91Send rec aLaw frames control word bits octets state =
     let st = stateAt state in
-    let call = sendCall (recordAt rec) (lawOf aLaw) frames bits octets in
+    let call = sendCall (recordAt rec) (lawOf aLaw) frames control word bits octets in
     answered (frameAnswer rec state (sendRefusal st call))
     (record { answer = 0; octets = sendOctets st call; state = stateLeft frames (sendLeft st call) state })
     (λ n. record { answer = n; octets = octets; state = state })
 
 -- ---- v91_receive
 
+-- a buffer more among 17's, which is the last test: whether it is shorter than needed
+unfoldable pub thenShort : Bool → Answer → Answer
+thenShort short a = cond (accepted a) (first (test 17 short ∷ [])) a
+
 pub record AfterReceive : Type 0 where
   pub answer : ℕ
   pub bits : List ℕ
   pub marks : List ℕ
+  pub heard : List ℕ
   pub state : List ℕ
 
-unfoldable pub v91Receive : List ℕ → Bool → ℕ → List ℕ → List ℕ → List ℕ → List ℕ → AfterReceive
-v91Receive rec aLaw frames octets bits marks state =
+unfoldable pub v91Receive : List ℕ → Bool → ℕ → Bool → List ℕ → List ℕ → List ℕ → List ℕ → List ℕ → AfterReceive
+v91Receive rec aLaw frames control octets bits marks heard state =
     let st = stateAt state in
-    let call = receiveCall (recordAt rec) (lawOf aLaw) frames octets bits marks in
-    answered (frameAnswer rec state (receiveRefusal st call))
+    let call = receiveCall (recordAt rec) (lawOf aLaw) frames control octets bits marks in
+    answered (thenShort (shorter heard heardLength) (frameAnswer rec state (receiveRefusal st call)))
     (record {
       answer = 0;
       bits = receiveBytes st call;
       marks = receiveMarked st call;
+      heard = over (heardBytes (receiveSays st call)) heard;
       state = stateLeft frames (receiveLeft st call) state;
     })
-    (λ n. record { answer = n; bits = bits; marks = marks; state = state })
+    (λ n. record { answer = n; bits = bits; marks = marks; heard = heard; state = state })
 
 -- ---- v91_send_dil: it answers the length of the sequence
 

@@ -1,21 +1,25 @@
 // The C interface: interop/v91.h declares these functions.
 use dil::DIL_OCTETS;
+use forms::HEARD_BYTES;
 use forms::PLAN_BYTES;
 use forms::RECORD_BYTES;
 use forms::STATE_BYTES;
-use standard::FramesDone;
 use standard::Law;
+use standard::LineState;
+use standard::Outcome;
+use standard::Said;
 ghost use mathlib.Core.Path.{_≡_};
 ghost use Prim.Native.Nat.{_≤_};
-ghost use mathlib.Core.Bool.{_||_};
+ghost use mathlib.Core.Bool.{true, _||_};
 ghost use lib.Dec.{ltb};
 ghost use lib.ListN.{length};
 ghost use Rattle.standard.specs.Refusals.{outcomeAnswer};
-ghost use Rattle.standard.specs.Calls.{linearCall, linearRefusal, linearSamples};
+ghost use Rattle.standard.specs.Calls.{over, linearCall, linearRefusal, linearSamples};
 ghost use Rattle.forms.specs.Coded.{coded};
 ghost use Rattle.forms.specs.RecordBytes.{recordLength};
 ghost use Rattle.forms.specs.StateBytes.{stateLength};
-ghost use Rattle.v91_c.specs.Interface.{lawOf, answered, stateLeft, v91ReadCp, v91WriteCp, v91Send, v91Receive};
+ghost use Rattle.forms.specs.HeardBytes.{heardLength, heardBytes};
+ghost use Rattle.v91_c.specs.Interface.{lawOf, answered, stateLeft, thenShort, v91ReadCp, v91WriteCp, v91Send, v91Receive};
 ghost use Rattle.v91_c.specs.Interface.{v91SendDil, v91Plan};
 
 // The refusals 16 and 17, which are answered here for a record, a line state or a plan.
@@ -86,32 +90,32 @@ fn lent_short(rec: usize, state: usize) -> bool
 }
 
 // Ends a call of frames: answers its outcome, and puts the line state left into its bytes where it is accepted and has frames.
-fn end_call(done: FramesDone, frames: usize, state: &mut [u8]) -> u32
+fn end_call(outcome: Outcome, left: LineState, frames: usize, state: &mut [u8]) -> u32
     requires { ⌜ stateLength ≤ length (now state) ⌝ }
-    ensures { λ r. ⌜ (r ≡ coded (outcomeAnswer (done .outcome)))
-        × (now (state .exit) ≡ answered (outcomeAnswer (done .outcome)) (stateLeft frames (done .state) (now (state .entry)))
-        (λ n. now (state .entry))) ⌝ }
+    ensures { λ r. ⌜ (r ≡ coded (outcomeAnswer outcome))
+        × (now (state .exit) ≡ answered (outcomeAnswer outcome) (stateLeft frames left (now (state .entry))) (λ n. now (state .entry))) ⌝ }
 {
-    let outcome = done.outcome;
     let refusal = forms::code_of(outcome);
     if (refusal == 0) & (frames != 0) {
-        forms::state_into(done.state, state);
+        forms::state_into(left, state);
         return 0;
     }
     refusal
 }
 
-// Sends frames of data bits as octets, from the line state and to the one left.
+// Sends frames of data bits as octets, from the line state and to the one left. `sequence` is for a control sequence that starts in the call.
 #[no_mangle]
 pub extern "C" fn v91_send(
     rec: &[u8],
     a_law: bool,
     frames: usize,
+    control: bool,
+    sequence: u64,
     bits: &[u8],
     octets: &mut [u8],
     state: &mut [u8],
 ) -> u32
-    ensures { λ r. ⌜ v91Send (now (rec .entry)) «a_law» frames (now (bits .entry)) (now (octets .entry)) (now (state .entry))
+    ensures { λ r. ⌜ v91Send (now (rec .entry)) «a_law» frames control sequence (now (bits .entry)) (now (octets .entry)) (now (state .entry))
         ≡ record { answer = r; octets = now (octets .exit); state = now (state .exit) } ⌝ }
 {
     if lent_short(rec.len(), state.len()) {
@@ -119,32 +123,88 @@ pub extern "C" fn v91_send(
     }
     let r = forms::record_from(rec);
     let line = forms::state_from(state);
-    let done = codec::send(r, law_of(a_law), frames, line, bits, octets);
-    end_call(done, frames, state)
+    let done = codec::send(
+        r,
+        law_of(a_law),
+        frames,
+        control,
+        sequence,
+        line,
+        bits,
+        octets,
+    );
+    let outcome = done.outcome;
+    end_call(outcome, done.state, frames, state)
 }
 
-// Receives octets as data bits and a mark for each frame, from the line state and to the one left.
+// The answer to a call of the receiver whose buffer `heard` is too short: the call's own refusal, or 17.
+fn unheard(outcome: Outcome) -> u32
+    ensures { λ r. ⌜ r ≡ coded (thenShort true (outcomeAnswer outcome)) ⌝ }
+{
+    let refusal = forms::code_of(outcome);
+    if refusal == 0 {
+        return OUTPUT_TOO_SHORT;
+    }
+    refusal
+}
+
+// Puts what an accepted call says of a control sequence into its bytes.
+fn end_heard(outcome: Outcome, said: Said, heard: &mut [u8])
+    requires { ⌜ heardLength ≤ length (now heard) ⌝ }
+    ensures { λ r. ⌜ now (heard .exit) ≡ answered (outcomeAnswer outcome) (over (heardBytes said) (now (heard .entry)))
+        (λ n. now (heard .entry)) ⌝ }
+{
+    let refusal = forms::code_of(outcome);
+    if refusal == 0 {
+        forms::heard_into(said, heard);
+    }
+}
+
+// Receives octets as data bits and a mark for each frame, from the line state and to the one left, and says what became of the control
+// sequence that ends in the call.
 #[no_mangle]
 pub extern "C" fn v91_receive(
     rec: &[u8],
     a_law: bool,
     frames: usize,
+    control: bool,
     octets: &[u8],
     bits: &mut [u8],
     marks: &mut [u8],
+    heard: &mut [u8],
     state: &mut [u8],
 ) -> u32
-    ensures { λ r. ⌜ v91Receive (now (rec .entry)) «a_law» frames (now (octets .entry)) (now (bits .entry)) (now (marks .entry))
-        (now (state .entry))
-        ≡ record { answer = r; bits = now (bits .exit); marks = now (marks .exit); state = now (state .exit) } ⌝ }
+    ensures { λ r. ⌜ v91Receive (now (rec .entry)) «a_law» frames control (now (octets .entry)) (now (bits .entry)) (now (marks .entry))
+        (now (heard .entry)) (now (state .entry))
+        ≡ record {
+          answer = r;
+          bits = now (bits .exit);
+          marks = now (marks .exit);
+          heard = now (heard .exit);
+          state = now (state .exit);
+        } ⌝ }
 {
     if lent_short(rec.len(), state.len()) {
         return INPUT_TOO_SHORT;
     }
     let r = forms::record_from(rec);
     let line = forms::state_from(state);
-    let done = codec::receive(r, law_of(a_law), frames, line, octets, bits, marks);
-    end_call(done, frames, state)
+    if heard.len() < HEARD_BYTES {
+        return unheard(codec::receive_fault(
+            r,
+            frames,
+            control,
+            line,
+            octets.len(),
+            bits.len(),
+            marks.len(),
+        ));
+    }
+    let done = codec::receive(r, law_of(a_law), frames, control, line, octets, bits, marks);
+    let outcome = done.outcome;
+    let said = done.said;
+    end_heard(outcome, said, heard);
+    end_call(outcome, done.state, frames, state)
 }
 
 // Writes the default DIL, and answers how many octets it has.

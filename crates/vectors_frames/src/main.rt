@@ -1,10 +1,15 @@
 // Runs the calls on standard input through the frame sender, the frame receiver and the linear samples, and writes an answer line for
 // each. A line is lowercase hexadecimal; numbers have their low byte first; a record is 105 bytes, a law 1 (0 is µ-law), the frames 8,
-// a state 6 (history, last sign, doubtful bits), a length 2, a refusal 2 (its number, 0 for none, and its value).
-// `02`, record, law, frames, state, length of the octet buffer, data: answered by refusal, state, octet buffer afterwards.
-// `03`, record, law, frames, state, lengths of the bits buffer and the marks buffer, octets: by refusal, state, both buffers afterwards.
+// a state 21 (history 4, last sign, doubtful bits, frame place, sequence place, the sequence's bits 12, whether it is lost), the control
+// channel's choice 1 (0 is off), the bits of a sequence that starts 8, what is heard 8 (its kind and 7 of bits), a length 2, a refusal 2
+// (its number, 0 for none, and its value).
+// `02`, record, law, frames, state, choice, sequence, length of the octet buffer, data: answered by refusal, state, octet buffer
+// afterwards.
+// `03`, record, law, frames, state, choice, lengths of the bits buffer and the marks buffer, octets: by refusal, state, what is heard, both
+// buffers afterwards.
 // `04`, law, length of the samples buffer, octets: by refusal and samples, 4 bytes each in two's complement.
 use standard::FramesDone;
+use standard::FramesRead;
 use standard::Law;
 use standard::LineState;
 use standard::Outcome;
@@ -19,6 +24,7 @@ struct Setup {
     law: Law,
     frames: usize,
     state: LineState,
+    control: bool,
 }
 
 // The law of a number.
@@ -29,9 +35,9 @@ fn law_of(number: u8) -> Law {
     Law::A
 }
 
-// The record, the law, the frames and the state of a call.
+// The record, the law, the frames, the state and the choice of a call.
 fn setup_at(call: &[u8]) -> Setup
-    requires { ⌜ 123 ≤ length (now call) ⌝ }
+    requires { ⌜ 137 ≤ length (now call) ⌝ }
 {
     let cp = forms::record_from(&call[1..]);
     let law = law_of(call[106]);
@@ -42,6 +48,7 @@ fn setup_at(call: &[u8]) -> Setup
         law,
         frames,
         state,
+        control: call[136] != 0,
     }
 }
 
@@ -75,61 +82,98 @@ fn put_refusal(outcome: Outcome, reply: &mut [u8])
 }
 
 // Puts the refusal and the state left.
-fn put_done(done: FramesDone, reply: &mut [u8])
-    requires { ⌜ 8 ≤ length (now reply) ⌝ }
+fn put_left(outcome: Outcome, state: LineState, reply: &mut [u8])
+    requires { ⌜ 23 ≤ length (now reply) ⌝ }
 {
-    let outcome = done.outcome;
-    let state = done.state;
     put_refusal(outcome, reply);
     forms::state_into(state, &mut reply[2..]);
 }
 
+// Puts the answer of the sender.
+fn put_done(done: FramesDone, reply: &mut [u8])
+    requires { ⌜ 23 ≤ length (now reply) ⌝ }
+{
+    let outcome = done.outcome;
+    let state = done.state;
+    put_left(outcome, state, reply);
+}
+
+// Puts the answer of the receiver.
+fn put_read(done: FramesRead, reply: &mut [u8])
+    requires { ⌜ 31 ≤ length (now reply) ⌝ }
+{
+    let outcome = done.outcome;
+    let state = done.state;
+    let said = done.said;
+    put_left(outcome, state, reply);
+    forms::heard_into(said, &mut reply[23..]);
+}
+
 // Sends into a buffer that is filled first.
-fn send_into(setup: Setup, bytes: &[u8], octets: &mut [u8]) -> FramesDone {
+fn send_into(setup: Setup, word: u64, bytes: &[u8], octets: &mut [u8]) -> FramesDone {
     let cp = setup.cp;
     let law = setup.law;
     let state = setup.state;
     fill(octets, 3, 7);
-    codec::send(cp, law, setup.frames, state, bytes, octets)
+    codec::send(
+        cp,
+        law,
+        setup.frames,
+        setup.control,
+        word,
+        state,
+        bytes,
+        octets,
+    )
 }
 
 // Answers a call of the sender; nothing where the call is too short or the reply has no room.
 fn answer_send(call: &[u8], reply: &mut [u8]) -> usize
-    requires { ⌜ 8 ≤ length (now reply) ⌝ }
+    requires { ⌜ 31 ≤ length (now reply) ⌝ }
     ensures { λ n. ⌜ n ≤ length (now (reply .entry)) ⌝ }
 {
-    if call.len() < 123 {
+    if call.len() < 147 {
         return 0;
     }
-    let end = 8 + two(call[121], call[122]);
+    let end = 23 + two(call[145], call[146]);
     if reply.len() < end {
         return 0;
     }
-    let done = send_into(setup_at(call), &call[123..], &mut reply[8..end]);
+    let word = bits::field_at(call, 1096, 64);
+    let done = send_into(setup_at(call), word, &call[147..], &mut reply[23..end]);
     put_done(done, reply);
     end
 }
 
 // Receives into buffers that are filled first.
-fn receive_into(setup: Setup, octets: &[u8], bytes: &mut [u8], marks: &mut [u8]) -> FramesDone {
+fn receive_into(setup: Setup, octets: &[u8], bytes: &mut [u8], marks: &mut [u8]) -> FramesRead {
     let cp = setup.cp;
     let law = setup.law;
     let state = setup.state;
     fill(bytes, 1, 5);
     fill(marks, 2, 3);
-    codec::receive(cp, law, setup.frames, state, octets, bytes, marks)
+    codec::receive(
+        cp,
+        law,
+        setup.frames,
+        setup.control,
+        state,
+        octets,
+        bytes,
+        marks,
+    )
 }
 
 // Answers a call of the receiver, by way of `marks`; nothing where the call is too short or there is no room.
 fn answer_receive(call: &[u8], reply: &mut [u8], marks: &mut [u8]) -> usize
-    requires { ⌜ 8 ≤ length (now reply) ⌝ }
+    requires { ⌜ 31 ≤ length (now reply) ⌝ }
     ensures { λ n. ⌜ n ≤ length (now (reply .entry)) ⌝ }
 {
-    if call.len() < 125 {
+    if call.len() < 141 {
         return 0;
     }
-    let end = 8 + two(call[121], call[122]);
-    let count = two(call[123], call[124]);
+    let end = 31 + two(call[137], call[138]);
+    let count = two(call[139], call[140]);
     if marks.len() < count {
         return 0;
     }
@@ -139,11 +183,11 @@ fn answer_receive(call: &[u8], reply: &mut [u8], marks: &mut [u8]) -> usize
     }
     let done = receive_into(
         setup_at(call),
-        &call[125..],
-        &mut reply[8..end],
+        &call[141..],
+        &mut reply[31..end],
         &mut marks[0..count],
     );
-    put_done(done, reply);
+    put_read(done, reply);
     bytes::copy(&marks[0..count], &mut reply[end..after]);
     after
 }
@@ -206,7 +250,7 @@ fn answer_linear(call: &[u8], reply: &mut [u8], samples: &mut [i32]) -> usize
 
 // Answers a call of any kind, and returns the reply's length; nothing where the call is too short or of no kind.
 fn answer_call(call: &[u8], reply: &mut [u8]) -> usize
-    requires { ⌜ 8 ≤ length (now reply) ⌝ }
+    requires { ⌜ 31 ≤ length (now reply) ⌝ }
     ensures { λ n. ⌜ n ≤ length (now (reply .entry)) ⌝ }
 {
     if call.len() < 4 {

@@ -1,17 +1,18 @@
--- The register when i words, each after its start bit, have passed. Assumes nothing.
-use mathlib.Core.Path.{_≡_, refl, ap, ap₂, _∙_}
-use Prim.Native.Nat.{ℕ, _+_, _*_, _≤_, _-_}
+-- The register when i words, each with the start bit after it, have passed. Assumes nothing.
+use mathlib.Core.Path.{_≡_, refl, ap, _∙_}
+use Prim.Native.Nat.{_+_, _*_, _%_, _≤_, _-_}
 use native.Mathlib.Omega.{arith}
-use Rattle.standard.specs.Lists.{after}
-use Rattle.standard.specs.Bits.{bitAt, bitsOf}
-use Rattle.standard.specs.Crc.{crcStep, crcBelow}
-use Rattle.standard.proofs.Bits.{field-lt}
+use borrow.Author.Tests.{eq-eqb}
+use Rattle.standard.specs.Bits.{bitAt}
+use Rattle.standard.specs.Crc.{crcOver}
+use Rattle.standard.specs.Cp.{gamma, startBit, cpCrc}
+use Rattle.standard.proofs.Crc.{crcOver-skip}
 use Rattle.crc.proofs.Crc.{crc-word}
 use Rattle.crc.proofs.crc_of.Statement.{statement}
 use Rattle.crc.proofs.crc_of.Tie as tie
 
 abbrev Inv-loop : tie.InvT-loop
-Inv-loop cp g words register₀ i₀ register i = (i ≤ words) × (register ≡ crcBelow (bitAt cp) (17 + 17 * i))
+Inv-loop cp g words register₀ i₀ register i = (i ≤ words) × (register ≡ crcOver startBit (bitAt cp) 18 (17 * i))
 
 abbrev μ-loop : tie.MeasureT-loop
 μ-loop cp g words register₀ i₀ register i = words - i
@@ -23,25 +24,17 @@ add-words : tie.Need-add-words Inv-loop μ-loop
 add-words c = omega arith
 
 loop-holds : tie.Need-loop-holds Inv-loop μ-loop
-unfolding crcBelow
+unfolding crcOver
 loop-holds c = (omega arith, refl)
 
-mul-field-at : tie.Need-mul-field-at Inv-loop μ-loop
-mul-field-at c = omega arith
+mul-crc-from : tie.Need-mul-crc-from Inv-loop μ-loop
+mul-crc-from c = omega arith
 
-add-field-at : tie.Need-add-field-at Inv-loop μ-loop
-add-field-at c = omega arith
+add-crc-from : tie.Need-add-crc-from Inv-loop μ-loop
+add-crc-from c = omega arith
 
-field-at-requires : tie.Need-field-at-requires Inv-loop μ-loop
-field-at-requires c κs = omega arith
-
-cast-word : tie.Need-cast-word Inv-loop μ-loop
-cast-word c =
-    let f = bitAt (c .before .before .before .before .args .cp .now) in
-    omega (arith, field-lt f (18 + 17 * c .before .before .loop .i) 16, c .field-at .ensures)
-
-crc-word-requires : tie.Need-crc-word-requires Inv-loop μ-loop
-crc-word-requires c κs = tt
+crc-from-requires : tie.Need-crc-from-requires Inv-loop μ-loop
+crc-from-requires c κs = (omega arith, omega arith)
 
 add-i : tie.Need-add-i Inv-loop μ-loop
 add-i c = omega arith
@@ -51,18 +44,20 @@ loop-less c = omega arith
 
 loop-again : tie.Need-loop-again Inv-loop μ-loop
 loop-again c =
-    let l = c .before .before .before .loop in
-    let f = bitAt (c .before .before .before .before .before .args .cp .now) in (
+    let l = c .before .before .loop in (
       omega arith,
-      c .crc-word .ensures ∙ ap₂ (λ (x w : ℕ). after crcStep x (bitsOf 16 w)) (l .inv .1) (c .before .field-at .ensures)
-          ∙ crc-word f (l .i),
+      crc-word (bitAt (c .before .before .before .before .args .cp .now)) (l .i) (l .register) (c .crc-from .result) (l .inv .1)
+          (c .crc-from .ensures),
     )
 
 returns : tie.Need-returns Inv-loop μ-loop
+unfolding cpCrc
 returns c =
     let a = c .before .before .before .args in
-    let e : 17 + 17 * c .before .loop .i ≡ 272 + 136 * a .g = omega arith in
-    c .before .loop .inv .1 ∙ ap (crcBelow (bitAt (a .cp .now))) e
+    let f = bitAt (a .cp .now) in
+    let k = 254 + gamma (a .g) in
+    let e : 17 * c .before .loop .i ≡ k + 1 = omega arith in
+    c .before .loop .inv .1 ∙ ap (crcOver startBit f 18) e ∙ crcOver-skip startBit f 18 k (eq-eqb ((18 + k) % 17) 0 (omega arith))
 
 pub crc-of-spec : {M : Type 1} → statement M
 crc-of-spec =
@@ -73,11 +68,9 @@ crc-of-spec =
     mul-words
     add-words
     loop-holds
-    mul-field-at
-    add-field-at
-    field-at-requires
-    cast-word
-    crc-word-requires
+    mul-crc-from
+    add-crc-from
+    crc-from-requires
     add-i
     loop-less
     loop-again

@@ -1,38 +1,84 @@
 -- A byte of each part, by its place. Assumes nothing.
+use native.Mathlib.Omega.{arith}
 use borrow.Author.Tests.{lt-ltb, le-ltb}
-use Rattle.forms.specs.StateBytes.{stateByte}
 use borrow.Author.Needs.{needs}
+use Rattle.standard.proofs.Words.{byte-weight}
+use Rattle.forms.specs.StateBytes.{stateByte}
 use Rattle.forms.proofs.state_byte.Statement.{statement}
 use Rattle.forms.proofs.state_byte.Tie as tie
 
-mul-result : tie.Need-mul-result
-mul-result c = search needs
-
-cast-result : tie.Need-cast-result
-cast-result c = search needs
-
-shr-result : tie.Need-shr-result
-shr-result c = search needs
-
-cast-result-2 : tie.Need-cast-result-2
-cast-result-2 c = search needs
-
 returns : tie.Need-returns
 unfolding stateByte
-returns c = rw (lt-ltb _ _ (c .before .if1 .taken))
-
-cast-result-3 : tie.Need-cast-result-3
-cast-result-3 c = search needs
+returns c = let k = c .before .before .args .k in rw (lt-ltb k 4 (omega arith))
 
 returns-2 : tie.Need-returns-2
 unfolding stateByte
-returns-2 c = rw (le-ltb _ _ (c .before .before .if1 .left), lt-ltb _ _ (c .before .if2 .taken))
+returns-2 c = let k = c .before .before .before .args .k in rw (le-ltb k 4 (omega arith), lt-ltb k 5 (omega arith))
 
 returns-3 : tie.Need-returns-3
 unfolding stateByte
-returns-3 c = rw (le-ltb _ _ (c .before .if1 .left), le-ltb _ _ (c .if2 .left))
+returns-3 c =
+    let k = c .before .before .before .args .k in rw (le-ltb k 4 (omega arith), le-ltb k 5 (omega arith), lt-ltb k 6 (omega arith))
+
+returns-4 : tie.Need-returns-4
+unfolding stateByte
+returns-4 c =
+    let k = c .before .before .before .before .args .k in
+    rw (le-ltb k 4 (omega arith), le-ltb k 5 (omega arith), le-ltb k 6 (omega arith), lt-ltb k 7 (omega arith))
+
+returns-5 : tie.Need-returns-5
+unfolding stateByte
+returns-5 c =
+    let k = c .before .before .before .before .before .args .k in
+    rw (
+      le-ltb k 4 (omega arith),
+      le-ltb k 5 (omega arith),
+      le-ltb k 6 (omega arith),
+      le-ltb k 7 (omega arith),
+      lt-ltb k 8 (omega arith),
+    )
+
+returns-6 : tie.Need-returns-6
+unfolding stateByte
+returns-6 c =
+    let k = c .before .before .before .before .before .before .before .args .k in
+    rw (
+      le-ltb k 4 (omega arith),
+      le-ltb k 5 (omega arith),
+      le-ltb k 6 (omega arith),
+      le-ltb k 7 (omega arith),
+      le-ltb k 8 (omega arith),
+      lt-ltb k 20 (omega arith),
+    )
+
+returns-7 : tie.Need-returns-7
+unfolding stateByte
+returns-7 c =
+    let k = c .before .before .before .before .before .before .before .args .k in
+    rw (
+      le-ltb k 4 (omega arith),
+      le-ltb k 5 (omega arith),
+      le-ltb k 6 (omega arith),
+      le-ltb k 7 (omega arith),
+      le-ltb k 8 (omega arith),
+      le-ltb k 20 (omega arith),
+    )
 
 pub state-byte-spec : {M : Type 1} → statement M
 state-byte-spec =
     tie.close
-    (tie.spec mul-result cast-result shr-result cast-result-2 returns cast-result-3 returns-2 returns-3)
+    (tie.spec
+    (λ c. search needs)
+    (λ c. search needs)
+    (λ c. search needs)
+    (λ c. search needs)
+    returns
+    (λ c. search needs)
+    returns-2
+    returns-3
+    returns-4
+    returns-5
+    (λ c. search needs)
+    returns-6
+    (λ c. search needs)
+    returns-7)

@@ -11,10 +11,10 @@ use Rattle.forms.proofs.state_into.Statement.{statement}
 use Rattle.forms.proofs.state_into.Tie as tie
 
 abbrev Inv-loop : tie.InvT-loop
-Inv-loop s bytes₀ k₀ bytes k = (k ≤ 6) × (length bytes ≡ length bytes₀) × (bytes ≡ listFrom (stateByte s) 0 k ++ drop k bytes₀)
+Inv-loop s bytes₀ k₀ bytes k = (k ≤ 21) × (length bytes ≡ length bytes₀) × (bytes ≡ listFrom (stateByte s) 0 k ++ drop k bytes₀)
 
 abbrev μ-loop : tie.MeasureT-loop
-μ-loop s bytes₀ k₀ bytes k = 6 - k
+μ-loop s bytes₀ k₀ bytes k = 21 - k
 
 loop-holds : tie.Need-loop-holds Inv-loop μ-loop
 loop-holds c = (omega arith, refl, listed-none _ (c .before .args .bytes .now))
@@ -49,8 +49,8 @@ unfolding stateBytes
 returns c =
     let l = c .before .loop in
     let a = c .before .before .before .args in
-    let e : l .k ≡ 6 = omega arith in
-    listed-all (stateByte (a .s)) (a .bytes .now) (l .bytes) 6 (rw e at (l .inv .2))
+    let e : l .k ≡ 21 = omega arith in
+    listed-all (stateByte (a .s)) (a .bytes .now) (l .bytes) 21 (rw e at (l .inv .2))
 
 pub state-into-spec : {M : Type 1} → statement M
 state-into-spec =

@@ -1,11 +1,11 @@
 -- Where no test of the call applies, N is at most 1,024 and D at most 42 + 6. Assumes nothing.
-use mathlib.Core.Path.{sym, ap, _∙_}
-use Prim.Native.Nat.{ℕ, _*_, _≤_}
+use mathlib.Core.Path.{sym, _∙_}
+use Prim.Native.Nat.{_*_, _≤_, _<_}
 use native.Mathlib.Omega.{arith}
 use borrow.Author.Needs.{needs}
 use Rattle.standard.specs.Bits.{bytesFor}
-use Rattle.standard.specs.Frame.{dataBits}
-use Rattle.needs.proofs.Faults.{rate-passed, frames-passed, needed-done, needed-none}
+use Rattle.standard.specs.Frame.{callBits}
+use Rattle.needs.proofs.Faults.{rate-passed, frames-passed, place-passed, needed-done, needed-none}
 use Rattle.needs.proofs.needed_by.Statement.{statement}
 use Rattle.needs.proofs.needed_by.Tie as tie
 
@@ -16,6 +16,10 @@ module _ (c : tie.After-enum-told2) where
 
   rate : start .args .r .drn ≤ 28
   rate = rate-passed (start .args .r) (start .args .state) (start .args .frames) (c .before .before .call-fault .result)
+      (c .enum-told2 .given .1) (c .before .before .call-fault .ensures)
+
+  place : start .args .state .place < 64
+  place = place-passed (start .args .r) (start .args .state) (start .args .frames) (c .before .before .call-fault .result)
       (c .enum-told2 .given .1) (c .before .before .call-fault .ensures)
 
   few : start .args .frames ≤ 1024
@@ -33,30 +37,26 @@ returns c =
     let a = c .before .before .before .args in
     record {
       tested = c .before .before .call-fault .ensures;
-      bytes = needed-none _ _ (bytesFor (dataBits (a .r) (a .frames))) (c .enum-told .given .1);
+      bytes = needed-none _ _ (bytesFor (callBits (a .r) (a .control) (a .state .place) (a .frames))) (c .enum-told .given .1);
       octets = needed-none _ _ (6 * a .frames) (c .enum-told .given .1);
     }
 
 enum-told-2 : tie.Need-enum-told-2
 enum-told-2 c = search needs
 
-d-of-requires : tie.Need-d-of-requires
-d-of-requires c κs = search needs
-
 data-bytes-requires : tie.Need-data-bytes-requires
-data-bytes-requires c κs = (omega (arith, rate (c .before)), few (c .before))
+data-bytes-requires c κs = (rate c, place c, few c)
 
 mul-t7 : tie.Need-mul-t7
-mul-t7 c = omega (arith, few (c .before .before))
+mul-t7 c = omega (arith, few (c .before))
 
 returns-2 : tie.Need-returns-2
 returns-2 c =
-    let a = start (c .before .before) .args in
-    let done = c .before .before .enum-told2 .given .1 in
+    let a = start (c .before) .args in
+    let done = c .before .enum-told2 .given .1 in
     record {
-      tested = c .before .before .before .before .call-fault .ensures;
-      bytes = c .data-bytes .ensures ∙ ap (λ (w : ℕ). bytesFor (a .frames * w)) (c .before .d-of .ensures)
-          ∙ sym (needed-done _ (bytesFor (dataBits (a .r) (a .frames))) done);
+      tested = c .before .before .before .call-fault .ensures;
+      bytes = c .data-bytes .ensures ∙ sym (needed-done _ (bytesFor (callBits (a .r) (a .control) (a .state .place) (a .frames))) done);
       octets = sym (needed-done _ (6 * a .frames) done);
     }
 
@@ -68,7 +68,6 @@ needed-by-spec =
     enum-told
     returns
     enum-told-2
-    d-of-requires
     data-bytes-requires
     mul-t7
     returns-2)

@@ -1,71 +1,41 @@
--- The bits are whole frames and a rest; a rest that is padded is one frame more. Assumes nothing.
-use mathlib.Core.Path.{_≡_, refl, sym, _∙_}
-use Prim.Native.Nat.{ℕ, _+_, _*_, _/_, _%_, _≤_, _<_}
-use mathlib.Core.Bool.{true≢false}
-use native.Mathlib.Decide.{decLe}
-use native.Mathlib.Nat.{div-lt-iff-lt-mul, div-add-mod', mul-le-mul-right, mod-lt, add-mul, one-mul}
+-- After n turns the first n frames are cut. Assumes nothing.
+use mathlib.Core.Path.{_≡_}
+use Prim.Native.Nat.{_-_}
 use native.Mathlib.Omega.{arith}
-use borrow.Author.Needs.{needs}
+use Rattle.standard.specs.Frame.{callBits}
+use Rattle.streams.proofs.Widths.{Cutting, cutting-none, cutting-more, cutting-ends, cut-all}
 use Rattle.streams.proofs.cut_into.Statement.{statement}
 use Rattle.streams.proofs.cut_into.Tie as tie
 
-record Facts (b w : ℕ) : Type 0 where
-  many : 8 * b / w ≤ 1024
-  all : 8 * b / w * w + 8 * b % w ≡ 8 * b
-  rest : 8 * b % w < w
-  more : 0 < 8 * b % w → 8 * b / w < 1024
-  next : (8 * b / w + 1) * w ≡ 8 * b / w * w + w
+abbrev Inv-loop : tie.InvT-loop
+Inv-loop r control place bits exact left₀ frames₀ left frames = Cutting (callBits r control place) bits left frames
 
-facts : (b w : ℕ) → 1 ≤ w → b ≤ 128 * w → Facts b w
-facts b w h l =
-    let all : 8 * b / w * w + 8 * b % w ≡ 8 * b = div-add-mod' (8 * b) w in
-    record { many = many; all = all; rest = mod-lt (8 * b) h; more = more all (decLe 1024 (8 * b / w)); next = next }
-  where
-    many : 8 * b / w ≤ 1024
-    many = let q : 8 * b / w < 1025 = div-lt-iff-lt-mul h .1 (omega arith) in omega arith
+abbrev μ-loop : tie.MeasureT-loop
+μ-loop r control place bits exact left₀ frames₀ left frames = 1024 - frames
 
-    more : 8 * b / w * w + 8 * b % w ≡ 8 * b → Dec (1024 ≤ 8 * b / w) → 0 < 8 * b % w → 8 * b / w < 1024
-    more e (yes k) p = absurd (omega (arith, mul-le-mul-right w k))
-    more e (no k) p = omega arith
+loop-holds : tie.Need-loop-holds Inv-loop μ-loop
+loop-holds c = cutting-none _ _ _ _
 
-    next : (8 * b / w + 1) * w ≡ 8 * b / w * w + w
-    next = add-mul (8 * b / w) 1 w ∙ omega (arith, one-mul w)
-
-facts-at : (s : tie.Start) → Facts (s .args .bytes) (s .args .width)
-facts-at s = facts (s .args .bytes) (s .args .width) (s .pre .0) (s .pre .2)
-
-returns : tie.Need-returns
+returns : tie.Need-returns Inv-loop μ-loop
 returns c =
-    let f = facts-at (c .before) in
-    record { many = f .many; all = omega arith; less = omega arith; few = omega arith; whole = λ e. refl; none = λ e. refl }
+    let k = c .before .before in
+    let a = k .before .before .before .args in
+    cutting-ends (a .r) (a .control) (a .place) _ (k .before .before .before .pre .1) (k .before .before .loop .inv)
+    (k .width-at .ensures .0) (c .cut-rest .ensures)
 
-returns-2 : tie.Need-returns-2
+loop-again : tie.Need-loop-again Inv-loop μ-loop
+loop-again c =
+    let k = c .before in
+    let a = k .before .before .before .args in
+    cutting-more (a .r) (a .control) (a .place) _ (k .before .before .before .pre .1) (k .before .before .loop .inv)
+    (k .width-at .ensures .0) (omega arith) (omega arith)
+
+returns-2 : tie.Need-returns-2 Inv-loop μ-loop
 returns-2 c =
-    let f = facts-at (c .before .before) in
-    record {
-      many = f .many;
-      all = omega arith;
-      less = f .rest;
-      few = omega arith;
-      whole = λ e. refl;
-      none = λ e. absurd (true≢false (sym (c .if2 .taken) ∙ e));
-    }
-
-returns-3 : tie.Need-returns-3
-returns-3 c =
-    let f = facts-at (c .before .before) in
-    let p : 0 < 8 * c .before .before .args .bytes % c .before .before .args .width = omega arith in
-    let m = f .more p in
-    record {
-      many = omega arith;
-      all = omega arith;
-      less = omega arith;
-      few = omega arith;
-      whole = λ e. absurd (true≢false (sym e ∙ c .if2 .left));
-      none = λ e. refl;
-    }
+    let s = c .before .before in
+    cut-all _ _ _ _ _ _ _ (s .pre .1) (s .pre .2) (omega arith) (c .before .loop .inv)
 
 pub cut-into-spec : {M : Type 1} → statement M
 cut-into-spec =
-    tie.close (tie.spec (λ c. search needs) (λ c. search needs) (λ c. search needs) (λ c. search needs) returns returns-2
-    (λ c. let f = facts-at (c .before .before) in omega arith) (λ c. let f = facts-at (c .before .before) in omega arith) returns-3)
+    tie.close (tie.spec Inv-loop μ-loop loop-holds (λ c κs. omega arith) (λ c κs. omega arith) returns (λ c. omega arith) (λ c. omega arith)
+    loop-again returns-2)

@@ -7,10 +7,10 @@ use Rattle.line.proofs.send.send_all.Statement.{statement}
 use Rattle.line.proofs.send.send_all.Tie as tie
 
 abbrev Inv-loop : tie.InvT-loop
-Inv-loop e r law shows bytes₀ s₀ turns₀ bytes s turns = (s .waiting < 48) × (length bytes ≡ length bytes₀)
+Inv-loop e r law channel shows bytes₀ s₀ turns₀ bytes s turns = (s .left < 48) × (length bytes ≡ length bytes₀)
 
 abbrev μ-loop : tie.MeasureT-loop
-μ-loop e r law shows bytes₀ s₀ turns₀ bytes s turns = turns
+μ-loop e r law channel shows bytes₀ s₀ turns₀ bytes s turns = turns
 
 pub send-all-spec : {M : Type 1} → statement M
 send-all-spec =

@@ -5,10 +5,10 @@ use Rattle.v91.proofs.asked.asked_from.Statement.{statement}
 use Rattle.v91.proofs.asked.asked_from.Tie as tie
 
 abbrev Inv-loop : tie.InvT-loop
-Inv-loop words k count a₀ i₀ a i = Unit {0}
+Inv-loop words k binary count a₀ i₀ a i = Unit {0}
 
 abbrev μ-loop : tie.MeasureT-loop
-μ-loop words k count a₀ i₀ a i = count - i
+μ-loop words k binary count a₀ i₀ a i = count - i
 
 pub asked-from-spec : {M : Type 1} → statement M
 asked-from-spec =

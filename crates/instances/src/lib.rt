@@ -1,0 +1,1 @@
+// Closed instances of what `theorems` proves, computed: that its premises can hold. Statements and proofs in proofs/.
