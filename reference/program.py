@@ -14,8 +14,8 @@ from cp import write_cp
 from describe import (counted, demo_lines, description, example_cp, read_file, refusal_sentence,
                       shown)
 from dil import TABLE_5, length as dil_length, send_dil
-from frames import (COLD, FRESH, MOST_DOUBTFUL, MOST_FRAMES, add_bits, data_bits, data_bytes,
-                    ends_sequence, get_bits, receive_frame, send_frame, width_of)
+from frames import (COLD, FRESH, MOST_DOUBTFUL, MOST_FRAMES, add_bits, control_frames, data_bits,
+                    data_bytes, ends_sequence, get_bits, receive_frame, send_frame, width_of)
 from linear import linear
 from picture import LAW_NAMES, Picture, found_line, svg_lines, text_lines
 from plan import MOST_CEILING, RATES, SPACINGS, largest_spacing, plan, points_wanted
@@ -168,6 +168,19 @@ def sent_sentence(record, channel, count, data):
     return sent
 
 
+def sequences_sentence(count):
+    """What is said of the sequences in frames sent with the channel on."""
+    whole, more = divmod(control_frames(1, 0, count), control.FRAMES)
+    sent = f"{counted(whole, 'control sequence')} sent whole"
+    return f"{sent}, and {counted(more, 'control frame')} of one that is not" if more else sent
+
+
+def sent_sentences(record, channel, count, data):
+    """What is said of frames sent and, with the channel on, of the sequences in them."""
+    said = [sent_sentence(record, channel, count, data)]
+    return [*said, sequences_sentence(count)] if channel else said
+
+
 def send(call, cp_name, law_name, *options):
     """`send CPFILE LAW [exact] [progress] [control [cleardown] [retrain] [BITS]]`."""
     law = law_named(law_name)
@@ -178,7 +191,8 @@ def send(call, cp_name, law_name, *options):
     if count and record.drn == 0:
         raise Failed(CLEARDOWN)
     call.write(octets_for(record, law, channel, number, count, call.input))
-    call.say(sent_sentence(record, channel, count, call.input))
+    for sentence in sent_sentences(record, channel, count, call.input):
+        call.say(sentence)
 
 
 # Receiving
@@ -295,12 +309,18 @@ def coming_sentence(state):
     return f"{counted(state.doubtful, 'coming bit')} to distrust"
 
 
+def part_sentences(state):
+    """What is said of a sequence that is not whole: its frames are those done in the state left."""
+    done = counted(state.sequence_place, "control frame")
+    return [f"{done} received of a sequence that is not whole"] if state.sequence_place else []
+
+
 def summary(got):
     """What is said of a reception at its end."""
     sentences = [received_sentence(got.marks)]
     if any(got.marks) or got.doubtful:
         sentences.append(f"{counted(got.doubtful, 'bit')} of good frames doubtful in all")
-    return [*sentences, coming_sentence(got.state)]
+    return [*sentences, coming_sentence(got.state), *part_sentences(got.state)]
 
 
 def say_reception(call, got, left_over):

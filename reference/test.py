@@ -2799,7 +2799,7 @@ def program_sequences():
         what = (f": control sequence heard: cleardown {state[number & 1]}, "
                 f"retrain {state[number >> 1 & 1]}, data "
                 + "".join(str(number >> n & 1) for n in range(2, 56)))
-        same([line for line in lines if "sequence" in line],
+        same([line for line in lines if "control sequence" in line],
              [f"v91: frame {frame}{what}" for frame in (960, 1984) if frame < count],
              f"heard of {words}")
         same(files["back"][:len(data)], data, "data")
@@ -2863,10 +2863,26 @@ def channel_sentences():
         f"frames 5 to 7: {run.format(1)}; the 24 bits after that are doubtful"], "sequences")
     files = {"example.cp": cases_cp.plain(EXAMPLE), "data": b"ab"}
     same(said(files, "send example.cp MU Control < data > line"),
-         ["v91: 2 frames sent; 20 zero bits added to fill the last one", "v91: ok"], "send")
+         ["v91: 2 frames sent; 20 zero bits added to fill the last one",
+          "v91: 0 control sequences sent whole, and 1 control frame of one that is not", "v91: ok"],
+         "send")
+    same(said(files, "receive example.cp MU Control < line > back"),
+         ["v91: 2 frames received, 0 of them marked", "v91: 0 coming bits to distrust",
+          "v91: 1 control frame received of a sequence that is not whole",
+          "v91: 4 bits of data in the last byte", "v91: ok"], "receive")
     same(said(files, "send example.cp MU exact 1 Control < data > line"),
-         ["v91: 1 frame sent; 1 bit of data at the end not sent, too few for a frame", "v91: ok"],
+         ["v91: 1 frame sent; 1 bit of data at the end not sent, too few for a frame",
+          "v91: 0 control sequences sent whole, and 1 control frame of one that is not", "v91: ok"],
          "send exact")
+    same([program.sequences_sentence(count) for count in (0, 1, 960, 961, 1024, 1025, 2048, 3000)],
+         ["0 control sequences sent whole",
+          "0 control sequences sent whole, and 1 control frame of one that is not",
+          "0 control sequences sent whole, and 15 control frames of one that is not",
+          "1 control sequence sent whole", "1 control sequence sent whole",
+          "1 control sequence sent whole, and 1 control frame of one that is not",
+          "2 control sequences sent whole",
+          "2 control sequences sent whole, and 15 control frames of one that is not"],
+         "sequences sent")
     for words in ("cleardown", "1", "retrain exact", "control 2", "control " + 55 * "1", "on"):
         same(said(files, f"send example.cp mu {words} < data > line")[:-1],
              ["v91: after LAW send takes the words exact, progress and control alone, and after "
@@ -3006,9 +3022,10 @@ RIGHT_PROGRAM = {name: getattr(program, name)
                  for name in ("COMMANDS", "bytes_wanted", "check_ceiling", "check_send_words",
                               "cp_in", "data_told", "frame_count", "frame_sentences", "has_word",
                               "number_for", "number_told", "octets_for", "octets_read",
-                              "plan_sentence", "receive", "reception", "run_sentence", "runs_of",
-                              "send", "sent_sentence", "sequence_sentence", "state_told",
-                              "summary", "write_dil", "write_plan")}
+                              "part_sentences", "plan_sentence", "receive", "reception",
+                              "run_sentence", "runs_of", "send", "sent_sentence",
+                              "sent_sentences", "sequence_sentence", "state_told", "summary",
+                              "write_dil", "write_plan")}
 RIGHT_RUNS = describe.ucode_runs
 RIGHT_PICTURE = {name: getattr(picture, name)
                  for name in ("Picture", "bar", "drawn_at", "drawing", "gaps_of", "grid_lines",
@@ -3630,6 +3647,22 @@ def doubtful_by_d(record, law, channel, state, octets):
     return doubtful
 
 
+def sequences_by(counted):
+    """A program that counts the sequences in frames sent otherwise."""
+    def wrong(count):
+        whole, more = counted(count)
+        sent = f"{describe.counted(whole, 'control sequence')} sent whole"
+        rest = f", and {describe.counted(more, 'control frame')} of one that is not"
+        return sent + (rest if more else "")
+    return {"program.sequences_sentence": wrong}
+
+
+def part_by(changed_place):
+    """A program that says another number of frames of a sequence that is not whole."""
+    return {"program.part_sentences": lambda state: RIGHT_PROGRAM["part_sentences"](
+        state._replace(sequence_place=changed_place(state.sequence_place)))}
+
+
 WRONG_CHANNEL_PROGRAMS = {
     "send: control not looked at": channel_unread("send"),
     "receive: control not looked at": channel_unread("receive"),
@@ -3712,6 +3745,26 @@ WRONG_CHANNEL_PROGRAMS = {
     "pattern and CRC exchanged": sentences_by(
         lambda frame, told, right: RIGHT_PROGRAM["sequence_sentence"](
             frame, told._replace(what=(0, 1, 2, 4, 3)[told.what]))),
+    "sequences sent not said": {"program.sent_sentences": lambda *told: [
+        program.sent_sentence(*told)]},
+    "sequences sent said with the channel off": {
+        "program.sent_sentences": lambda record, channel, count, data: [
+            program.sent_sentence(record, channel, count, data),
+            program.sequences_sentence(count)]},
+    "sequences sent said first": {
+        "program.sent_sentences": lambda *told: RIGHT_PROGRAM["sent_sentences"](*told)[::-1]},
+    "every 64th frame counted but for the first": sequences_by(
+        lambda count: divmod(count // 64, 16)),
+    "sequences sent of 15 frames": sequences_by(lambda count: divmod(-(-count // 64), 15)),
+    "frames of sequences that are whole counted": sequences_by(
+        lambda count: (-(-count // 64) // 16, -(-count // 64))),
+    "whole sequences sent alone said": sequences_by(lambda count: (-(-count // 64) // 16, 0)),
+    "a sequence received in part not said": part_by(lambda place: 0),
+    "a whole sequence said to be received in part": {
+        "program.part_sentences": lambda state: RIGHT_PROGRAM["part_sentences"](state)
+        or state.sequence and RIGHT_PROGRAM["part_sentences"](state._replace(sequence_place=16))
+        or []},
+    "frames of a sequence yet to come said": part_by(lambda place: -place % 16),
     "cold at another frame place": told_cold(COLD._replace(frame_place=1)),
     "cold at another sequence place": told_cold(COLD._replace(sequence_place=1)),
     "version 4": {"program.VERSION": "v91 4"},

@@ -220,29 +220,25 @@ pub fn plan_into(p: Planned, bytes: &mut [u8])
     bits::put_word(bytes, 16, p.sum);
 }
 
-// The kind of what is said.
-fn kind_of(said: Said) -> u8
-    ensures { λ x. ⌜ x ≡ saidKind said ⌝ }
-{
-    match said {
-        Said::Nothing => 0,
-        Said::Sequence(_) => 1,
-        Said::FrameLost => 2,
-        Said::PatternWrong => 3,
-        Said::CrcWrong => 4,
-    }
+// What is said of a control sequence: its kind, and the bits of a sequence heard, 0 where none is.
+struct Spoken {
+    kind: u8,
+    bits: u64,
 }
 
-// The bits of a sequence heard; 0 where none is.
-fn bits_in(said: Said) -> u64
-    ensures { λ x. ⌜ x ≡ saidBits said ⌝ }
+// What is said, as its kind and its bits.
+fn told_as(said: Said) -> Spoken
+    ensures { λ x. ⌜ (x .kind ≡ saidKind said) × (x .bits ≡ saidBits said) ⌝ }
 {
     match said {
-        Said::Nothing => 0,
-        Said::Sequence(word) => word,
-        Said::FrameLost => 0,
-        Said::PatternWrong => 0,
-        Said::CrcWrong => 0,
+        Said::Nothing => Spoken { kind: 0, bits: 0 },
+        Said::Sequence(word) => Spoken {
+            kind: 1,
+            bits: word,
+        },
+        Said::FrameLost => Spoken { kind: 2, bits: 0 },
+        Said::PatternWrong => Spoken { kind: 3, bits: 0 },
+        Said::CrcWrong => Spoken { kind: 4, bits: 0 },
     }
 }
 
@@ -251,6 +247,7 @@ pub fn heard_into(said: Said, bytes: &mut [u8])
     requires { ⌜ heardLength ≤ length (now bytes) ⌝ }
     ensures { λ x. ⌜ now (bytes .exit) ≡ over (heardBytes said) (now (bytes .entry)) ⌝ }
 {
-    bytes[0] = kind_of(said);
-    bits::put_bytes(bytes, 1, 7, bits_in(said));
+    let told = told_as(said);
+    bytes[0] = told.kind;
+    bits::put_bytes(bytes, 1, 7, told.bits);
 }

@@ -38,9 +38,9 @@ ghost use Rattle.standard.specs.declared.Record.{Record};
 ghost use Rattle.frame.specs.Parts.{stateOf, Bounded, outgoing, Sendable, SentAs, Legible, Receivable, ReceivedAs, octetIn, labelIn};
 ghost use Rattle.frame.specs.Parts.{noneTest};
 
-// A line state on its way through a call, but for the sequence's bits: the last sign, its history in the order of time, how many coming data
-// bits are doubtful, the frame place, whether a frame of the sequence was lost, and the sequence place. In this order the compiler keeps
-// them apart.
+// A line state on its way through a call, but for the sequence's bits: the last sign, its history in the order of time, how many coming
+// data bits are doubtful, the frame place, whether a frame of the sequence was lost, and the sequence place. In this order the compiler
+// keeps them apart.
 pub struct Carried {
     pub sign: bool,
     pub past: u32,
@@ -123,7 +123,8 @@ pub fn send_frame(
     bits: u64,
     octets: &mut [u8],
 ) -> Carried
-    requires { ⌜ ((r : Record) × Sendable r mapping inverses (now points) line) × (length (now sequence) ≡ 12) × (length (now octets) ≡ 6) ⌝ }
+    requires { ⌜ ((r : Record) × Sendable r mapping inverses (now points) line) × (length (now sequence) ≡ 12)
+        × (length (now octets) ≡ 6) ⌝ }
     ensures { λ x. ⌜ ((r : Record) → Sendable r mapping inverses (now (points .entry)) line
         → SentAs r law (outgoing r on word line bits) line (now (sequence .entry)) x (now (sequence .exit)) (now (octets .exit))) ⌝ }
 {

@@ -20,14 +20,17 @@ use Rattle.standard.specs.declared.LineState.{LineState}
 use Rattle.standard.specs.declared.Record.{Record}
 use Rattle.standard.specs.declared.Said.{Said}
 
--- 'Line state': a term of document 01. 'The fresh state is zero for both.' A.1: 'The line state gains a count from 0 to 24: 24 for a
--- receiver told that it begins cold, else 0.' A.2's fields are zero too
-unfoldable pub fresh : LineState
-fresh = record { history = 0; sign = false; doubtful = 0; place = 0; done = 0; sequence = replicate 12 0; lost = false }
+-- the line state of an end that begins where nothing went before, with c doubtful bits. 'Line state' is a term of document 01; A.2's fields
+-- are zero too
+abbrev pub begun : ℕ → LineState
+begun c = record { history = 0; sign = false; doubtful = c; place = 0; done = 0; sequence = replicate 12 0; lost = false }
 
--- the state of a receiver told that it begins cold, where nothing else is known
+-- 'The fresh state is zero for both.' A.1: 'The line state gains a count from 0 to 24: 24 for a receiver told that it begins cold, else 0.'
+unfoldable pub fresh : LineState
+fresh = begun 0
+
 unfoldable pub cold : LineState
-cold = record { history = 0; sign = false; doubtful = 24; place = 0; done = 0; sequence = replicate 12 0; lost = false }
+cold = begun 24
 
 -- ---- the control channel (V.91 6.3.9, A.2): `on` is 'a choice handed in', p a frame place
 

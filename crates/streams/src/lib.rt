@@ -10,20 +10,20 @@ ghost use Prim.Native.Nat.{ℕ, _+_, _*_, _/_, _%_, _^_, _≤_, _<_, min};
 ghost use lib.Dec.{eqb};
 ghost use lib.ListN.{length};
 ghost use Rattle.standard.specs.Bits.{bitAt, bytesOf, field, odd, numberOf};
-ghost use Rattle.standard.specs.Frame.{fresh, cold, isControl, width, callBits};
+ghost use Rattle.standard.specs.Frame.{begun as begunWith, fresh, cold, isControl, width, callBits};
 ghost use Rattle.streams.specs.Cut.{CutInto};
 ghost use Rattle.streams.specs.Digits.{digitsOf};
 ghost use Rattle.streams.specs.Later.{later, differing as Later·differing};
 ghost use Rattle.streams.specs.Marks.{noted};
 
-// The fresh line state.
-pub fn fresh_state() -> LineState
-    ensures { λ s. ⌜ s ≡ fresh ⌝ }
+// The line state of an end that begins, with so many doubtful bits.
+fn begun(doubtful: u8) -> LineState
+    ensures { λ s. ⌜ s ≡ begunWith doubtful ⌝ }
 {
     LineState {
         history: 0,
         sign: false,
-        doubtful: 0,
+        doubtful,
         place: 0,
         done: 0,
         sequence: [0; 12],
@@ -31,19 +31,18 @@ pub fn fresh_state() -> LineState
     }
 }
 
+// The fresh line state.
+pub fn fresh_state() -> LineState
+    ensures { λ s. ⌜ s ≡ fresh ⌝ }
+{
+    begun(0)
+}
+
 // The line state of a receiver that begins cold.
 pub fn cold_state() -> LineState
     ensures { λ s. ⌜ s ≡ cold ⌝ }
 {
-    LineState {
-        history: 0,
-        sign: false,
-        doubtful: 24,
-        place: 0,
-        done: 0,
-        sequence: [0; 12],
-        lost: false,
-    }
+    begun(24)
 }
 
 // The data bits of frame i of those that begin at a frame place: D, and K in a control frame.
@@ -125,6 +124,23 @@ pub fn ending(place: u8, done: u8) -> usize
     ensures { λ x. ⌜ ((place + x) % 64 ≡ 0) × (done + (x + (place + 63) % 64) / 64 ≡ 15) ⌝ }
 {
     (64 - place as usize) % 64 + 64 * (15 - done as usize)
+}
+
+// Control sequences one after the other: how many are whole, and how many control frames there are of the one behind them.
+pub struct Sequences {
+    pub whole: u64,
+    pub more: u64,
+}
+
+// The control sequences in so many frames, of which the first and every 64th after it are control frames.
+pub fn sequences_in(frames: u64) -> Sequences
+    ensures { λ x. ⌜ (16 * x .whole + x .more ≡ (frames + 63) / 64) × (x .more < 16) ⌝ }
+{
+    let control = frames / 64 + (frames % 64 + 63) / 64;
+    Sequences {
+        whole: control / 16,
+        more: control % 16,
+    }
 }
 
 // Writes the data of a control sequence in digits; the first is bit 2 of `word`.

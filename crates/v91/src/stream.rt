@@ -24,6 +24,7 @@ use line::Sent;
 use standard::LineState;
 use streams::cold_state;
 use streams::fresh_state;
+use streams::sequences_in;
 
 // Says how many frames were sent, and the bits that were not or the zero bits in the last frame.
 fn say_sent(e: Ends, s: Sent) -> bool {
@@ -46,11 +47,28 @@ fn say_sent(e: Ends, s: Sent) -> bool {
     tell(e, b"# frame~ sent", s.frames, 0)
 }
 
-// Says what was sent where that is known, and returns whether all of it was.
-fn sum_up_sent(e: Ends, s: Sent) -> bool {
+// Says how many control sequences so many frames have whole, and the control frames of one that they do not.
+fn say_sequences(e: Ends, frames: u64) -> bool {
+    let s = sequences_in(frames);
+    if s.more == 0 {
+        return tell(e, b"# control sequence~ sent whole", s.whole, 0);
+    }
+    tell(
+        e,
+        b"# control sequence~ sent whole, and # control frame~ of one that is not",
+        s.whole,
+        s.more,
+    )
+}
+
+// Says what was sent where that is known, with its control sequences where the channel is on, and returns whether all of it was.
+fn sum_up_sent(e: Ends, s: Sent, control: bool) -> bool {
     let trouble = s.trouble;
     if !is_over(trouble) {
         say_sent(e, s);
+        if control {
+            say_sequences(e, s.frames);
+        }
     }
     all_well(e, trouble)
 }
@@ -106,7 +124,7 @@ pub(crate) fn send(e: Ends, words: &[u8]) -> bool {
         has(a, EXACT),
         e.shows | has(a, PROGRESS),
     );
-    sum_up_sent(e, sent)
+    sum_up_sent(e, sent, has(a, CONTROL))
 }
 
 // Says a sentence where the number is not 0.
@@ -116,8 +134,18 @@ fn tell_some(e: Ends, number: u64, template: &[u8]) {
     }
 }
 
-// Says what was received.
-fn say_received(e: Ends, s: Received) {
+// Says how many control frames so many frames have of a control sequence that they do not have whole.
+fn say_part(e: Ends, frames: u64) {
+    let s = sequences_in(frames);
+    tell_some(
+        e,
+        s.more,
+        b"# control frame~ received of a sequence that is not whole",
+    );
+}
+
+// Says what was received, with its last control sequence where the channel is on.
+fn say_received(e: Ends, s: Received, control: bool) {
     let report = s.report;
     tell_some(e, s.untold, b"# more run~ of marked frames");
     tell(
@@ -135,6 +163,9 @@ fn say_received(e: Ends, s: Received) {
         );
     }
     tell(e, b"# coming bit~ to distrust", s.coming as u64, 0);
+    if control {
+        say_part(e, report.frames);
+    }
     tell_some(
         e,
         s.waiting as u64,
@@ -186,7 +217,7 @@ pub(crate) fn receive(e: Ends, words: &[u8]) -> bool {
         a.number,
         e.shows | has(a, PROGRESS),
     );
-    say_received(e, got);
+    say_received(e, got, has(a, CONTROL));
     let trouble = got.trouble;
     all_well(e, trouble) && all_came(e, has(a, DIGITS), got.wanted)
 }

@@ -103,7 +103,8 @@ fn end_call(outcome: Outcome, left: LineState, frames: usize, state: &mut [u8]) 
     refusal
 }
 
-// Sends frames of data bits as octets, from the line state and to the one left. `sequence` is for a control sequence that starts in the call.
+// Sends frames of data bits as octets, from the line state and to the one left. `sequence` is for a control sequence that starts in the
+// call.
 #[no_mangle]
 pub extern "C" fn v91_send(
     rec: &[u8],
@@ -115,7 +116,8 @@ pub extern "C" fn v91_send(
     octets: &mut [u8],
     state: &mut [u8],
 ) -> u32
-    ensures { λ r. ⌜ v91Send (now (rec .entry)) «a_law» frames control sequence (now (bits .entry)) (now (octets .entry)) (now (state .entry))
+    ensures { λ r. ⌜ v91Send (now (rec .entry)) «a_law» frames control sequence (now (bits .entry)) (now (octets .entry))
+        (now (state .entry))
         ≡ record { answer = r; octets = now (octets .exit); state = now (state .exit) } ⌝ }
 {
     if lent_short(rec.len(), state.len()) {

@@ -9,21 +9,21 @@ use Rattle.forms.proofs.heard_into.Tie as tie
 
 put-bytes-requires : tie.Need-put-bytes-requires
 put-bytes-requires c κs =
-    (omega arith, omega (arith, length-set (c .before .before .before .before .args .bytes .now) 0 (c .before .before .kind-of .result)))
+    (omega arith, omega (arith, length-set (c .before .before .before .args .bytes .now) 0 (c .before .told-as .result .kind)))
 
 same-length : tie.Need-same-length
 same-length c =
     c .before .before .put-bytes .kept .0
-    ∙ length-set (c .before .before .before .before .before .before .before .args .bytes .now) 0
-    (c .before .before .before .before .before .kind-of .result)
+    ∙ length-set (c .before .before .before .before .before .before .args .bytes .now) 0
+    (c .before .before .before .before .told-as .result .kind)
 
 returns : tie.Need-returns
 returns c =
-    let kind = c .before .before .before .before .before .kind-of in
-    let start = c .before .before .before .before .before .before in
-    heard-put (start .before .args .said) (kind .result) _ (start .before .args .bytes .now) _ (omega arith)
+    let told = c .before .before .before .before .told-as in
+    let start = c .before .before .before .before .before in
+    heard-put (start .before .args .said) (told .result .kind) _ (start .before .args .bytes .now) _ (omega arith)
     (λ i. start .slice-known .given i .fits) (omega arith)
-    (kind .ensures) (c .before .before .before .bits-in .ensures) (c .before .before .put-bytes .ensures)
+    (told .ensures .0) (told .ensures .1) (c .before .before .put-bytes .ensures)
 
 pub heard-into-spec : {M : Type 1} → statement M
 heard-into-spec =
@@ -31,7 +31,6 @@ heard-into-spec =
     (tie.spec
     (λ c κs. search needs)
     (λ c. search needs)
-    (λ c κs. search needs)
     put-bytes-requires
     same-length
     returns)

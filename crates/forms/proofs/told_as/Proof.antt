@@ -1,18 +1,18 @@
--- A sequence heard has bits. Assumes nothing.
+-- Each arm has its kind, and a sequence heard its bits. Assumes nothing.
 use mathlib.Core.Path.{_≡_, sym, ap}
 use borrow.Author.Needs.{needs}
 use Rattle.standard.specs.declared.Said.{Said}
-use Rattle.forms.specs.HeardBytes.{saidBits}
-use Rattle.forms.proofs.bits_in.Statement.{statement}
-use Rattle.forms.proofs.bits_in.Tie as tie
+use Rattle.forms.specs.HeardBytes.{saidKind, saidBits}
+use Rattle.forms.proofs.told_as.Statement.{statement}
+use Rattle.forms.proofs.told_as.Tie as tie
 
 -- the arm of y
-arm : {x y : Said} → x ≡ y → saidBits y ≡ saidBits x
-arm e = sym (ap saidBits e)
+arm : {x y : Said} → x ≡ y → (saidKind y ≡ saidKind x) × (saidBits y ≡ saidBits x)
+arm e = (sym (ap saidKind e), sym (ap saidBits e))
 
-pub bits-in-spec : {M : Type 1} → statement M
-unfolding saidBits
-bits-in-spec =
+pub told-as-spec : {M : Type 1} → statement M
+unfolding saidKind saidBits
+told-as-spec =
     tie.close
     (tie.spec
     (λ c. search needs)
