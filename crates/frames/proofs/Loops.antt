@@ -10,14 +10,12 @@ use borrow.Rule.Slice.PartMut.{putMid}
 use lib.ListN.{length, getD, take, drop, set, length-append, length-drop, length-set, List·getD-append, List·getD-eq-default}
 use lib.Seq.{drop-cons, set-at, append-snoc, getD-append-add}
 use Rattle.standard.specs.Lists.{listFrom, lastOr, parts, joined, each, after}
-use Rattle.standard.specs.Bits.{odd, bit, bitAt, bitsIn, field, bytesFor, bytesOf, nth, numberOf, bitsOf}
+use Rattle.standard.specs.Bits.{odd, bit, bitAt, bitsIn, field, bytesFor, bytesOf, nth, bitsOf}
 use Rattle.standard.specs.Record.{D}
 use Rattle.standard.specs.Control.{judged}
 use Rattle.standard.specs.Frame.{isControl, width, dataBits, callBits, endsIn, Outgoing, sendFrame, sendNext, Incoming, receiveFrame}
-use Rattle.standard.specs.Frame.{saidIn}
-use Rattle.standard.specs.Frame.{receiveNext, mark, outgoingFrames, sendFrames, sendAfter, sixIn, incomingFrames, receiveFrames}
-use Rattle.standard.specs.Frame.{receiveMarks}
-use Rattle.standard.specs.Frame.{receiveAfter, receiveSaid}
+use Rattle.standard.specs.Frame.{saidIn, receiveNext, mark, outgoingFrames, sendFrames, sendAfter, sixIn, incomingFrames, receiveFrames}
+use Rattle.standard.specs.Frame.{receiveMarks, receiveAfter, receiveSaid}
 use Rattle.standard.specs.Calls.{over}
 use Rattle.standard.specs.declared.Law.{Law}
 use Rattle.standard.specs.declared.LineState.{LineState}

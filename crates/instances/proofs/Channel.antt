@@ -23,8 +23,8 @@ use Rattle.standard.specs.Modulus.{product}
 use Rattle.standard.specs.Frame.{fresh, isControl, nextPlace, width, dataBits, callBits, controls, Outgoing, sequenceSent, controlBits}
 use Rattle.standard.specs.Frame.{sendFrame, sendNext, Incoming, saidIn, receiveNext, outgoingFrames, sendAfter, receiveAfter}
 use Rattle.standard.specs.Refusals.{indexTooLarge, drnTooLarge, grantedBelowFullRate, intervalEmpty, productTooSmall, maskAboveIndices}
-use Rattle.standard.specs.Refusals.{framesAtCleardown, historyTooLarge, doubtfulTooLarge, placeTooLarge, tooManyFrames, shorter}
-use Rattle.standard.specs.Refusals.{emptyTest, emptyTests, rateTests, recordTests, lineTests, bufferTests, frameTests}
+use Rattle.standard.specs.Refusals.{framesAtCleardown, historyTooLarge, doubtfulTooLarge, placeTooLarge, tooManyFrames, shorter, emptyTest}
+use Rattle.standard.specs.Refusals.{emptyTests, rateTests, recordTests, lineTests, bufferTests, frameTests}
 use Rattle.standard.specs.Calls.{accepted, SendCall, sendRefusal, sendBits, sendLeft, ReceiveCall, receiveRefusal, receiveOctets}
 use Rattle.standard.specs.Calls.{receiveLeft}
 use Rattle.standard.specs.declared.Law.{Law}
@@ -39,8 +39,7 @@ use Rattle.standard.proofs.Frame.{doubtful-le, length-sendFrame}
 use Rattle.standard.proofs.Refusals.{record-numbered}
 use Rattle.theorems.specs.Examples.{common}
 use Rattle.theorems.specs.Runs.{overCalls, AllCalls, sends, receives, message, sent, octetsRead, sendChoices, receiveChoices, framesRead}
-use Rattle.theorems.specs.Runs.{SendsWith}
-use Rattle.theorems.specs.Runs.{ReceivesWith, Damage, frames, Carried, Run}
+use Rattle.theorems.specs.Runs.{SendsWith, ReceivesWith, Damage, frames, Carried, Run}
 use Rattle.theorems.specs.Channel.{framesSent, controlSent, Steady, saidAt, saidGiven, StartsAt, Whole, ControlAt}
 use Rattle.theorems.proofs.OverCalls.{choice, SendRun, send-run}
 use Rattle.theorems.proofs.Runs.{many}

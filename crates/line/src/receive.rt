@@ -30,7 +30,7 @@ use streams::width_at;
 use words::add_choice;
 use words::add_name;
 ghost use mathlib.Core.Path.{_≡_};
-ghost use Prim.Native.Nat.{_*_, _<_, _≤_};
+ghost use Prim.Native.Nat.{_<_, _≤_};
 ghost use lib.ListN.{length};
 
 // What is known and told of the frames so far: what their marks come to, how many runs of marked frames were told and how many were not,

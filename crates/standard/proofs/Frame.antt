@@ -1,5 +1,5 @@
 -- Laws of a data frame, there and back, and of N frames. Assumes nothing.
-use mathlib.Core.Path.{_≡_, refl, sym, ap, ap₂, _∙_}
+use mathlib.Core.Path.{_≡_, refl, sym, ap, _∙_}
 use Prim.Native.Nat.{ℕ, zero, suc, _+_, _*_, _-_, _/_, _%_, _^_, _≤_, _<_}
 use mathlib.Core.Bool.{Bool, true, false, cond, not}
 use mathlib.Core.List.{List, [], _∷_, _++_, map-append}
@@ -13,7 +13,7 @@ use Rattle.standard.specs.Lists.{listFrom, parts, joined, each, after}
 use Rattle.standard.specs.First.{Test, test}
 use Rattle.standard.specs.Bits.{bitAt, bytesOf, nth, numberOf, bitsOf}
 use Rattle.standard.specs.Record.{K, D}
-use Rattle.standard.specs.Scrambler.{pushAll, scramble, descramble}
+use Rattle.standard.specs.Scrambler.{pushAll, scramble}
 use Rattle.standard.specs.Constellation.{member, size, label, point, sizes}
 use Rattle.standard.specs.Modulus.{product, number}
 use Rattle.standard.specs.Signs.{signsOf, signBits}
@@ -22,10 +22,9 @@ use Rattle.standard.specs.Control.{judged}
 use Rattle.standard.specs.Frame.{isControl, nextPlace, width, dataBits, callBits, controls, endsIn, Outgoing, sequenceSent}
 use Rattle.standard.specs.Frame.{controlBits, lineBits, frameSigns, frameLabels, frameOctets, sendFrame, sendNext, signAt, ucodeAt}
 use Rattle.standard.specs.Frame.{receivedNumber, outsideTest, outsideTests, markTests, mark, good, heardBits, Incoming, heardControl}
-use Rattle.standard.specs.Frame.{heardData}
-use Rattle.standard.specs.Frame.{receiveFrame, sequenceSoFar, lostSoFar, saidIn, doubtfulAfter, receiveNext, outgoingFrames}
-use Rattle.standard.specs.Frame.{sendFrames}
-use Rattle.standard.specs.Frame.{sendAfter, sixIn, incomingFrames, receiveFrames, receiveMarks, receiveAfter, receiveSaid}
+use Rattle.standard.specs.Frame.{heardData, receiveFrame, sequenceSoFar, lostSoFar, saidIn, doubtfulAfter, receiveNext}
+use Rattle.standard.specs.Frame.{outgoingFrames, sendFrames, sendAfter, sixIn, incomingFrames, receiveFrames, receiveMarks}
+use Rattle.standard.specs.Frame.{receiveAfter, receiveSaid}
 use Rattle.standard.specs.declared.Law.{Law}
 use Rattle.standard.specs.declared.LineState.{LineState}
 use Rattle.standard.specs.declared.Record.{Record}
@@ -38,8 +37,7 @@ use Rattle.standard.proofs.Scrambler.{length-scramble, length-descrambl
 use Rattle.standard.proofs.Constellation.{Names, names}
 use Rattle.standard.proofs.Modulus.{Within, within-at, number-labels, length-labels, labels-within}
 use Rattle.standard.proofs.Signs.{taken, taken-same, taken-append, length-taken, signs-taken, signs-append, bits-append}
-use Rattle.standard.proofs.Signs.{length-signsOf}
-use Rattle.standard.proofs.Signs.{length-signBits}
+use Rattle.standard.proofs.Signs.{length-signsOf, length-signBits}
 use Rattle.standard.proofs.Octets.{sign-back, ucode-back}
 use Rattle.standard.proofs.Control.{judged-ext}
 

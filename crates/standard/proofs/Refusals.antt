@@ -19,9 +19,8 @@ use Rattle.standard.specs.Constellation.{size, sizes}
 use Rattle.standard.specs.Modulus.{product}
 use Rattle.standard.specs.Refusals.{indexTooLarge, drnTooLarge, grantedBelowFullRate, intervalEmpty, productTooSmall}
 use Rattle.standard.specs.Refusals.{maskAboveIndices, framesAtCleardown, historyTooLarge, doubtfulTooLarge, placeTooLarge}
-use Rattle.standard.specs.Refusals.{tooManyFrames}
-use Rattle.standard.specs.Refusals.{emptyTest, emptyTests, rateTests, recordTests, readTests, writeTests, lineTests, bufferTests}
-use Rattle.standard.specs.Refusals.{frameTests, planTests}
+use Rattle.standard.specs.Refusals.{tooManyFrames, emptyTest, emptyTests, rateTests, recordTests, readTests, writeTests, lineTests}
+use Rattle.standard.specs.Refusals.{bufferTests, frameTests, planTests}
 use Rattle.standard.specs.Calls.{accepted}
 use Rattle.standard.specs.declared.Law.{Law}
 use Rattle.standard.specs.declared.LineState.{LineState}

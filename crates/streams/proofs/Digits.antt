@@ -1,12 +1,12 @@
 -- The number in binary digits. Assumes nothing.
-use mathlib.Core.Path.{_≡_, refl, sym, ap, _∙_}
+use mathlib.Core.Path.{_≡_, sym, ap, _∙_}
 use Prim.Native.Nat.{ℕ, suc, _+_, _*_, _-_, _%_, _^_, _≤_, _<_}
 use mathlib.Core.List.{List, _∷_, map}
 use native.Mathlib.Omega.{arith}
 use lib.ListN.{length, drop, getD, length-drop, length-map}
 use lib.Seq.{drop-cons, drop-length}
 use lib.Pow.{pow-mono}
-use Rattle.standard.specs.Bits.{weight, odd, numberOf}
+use Rattle.standard.specs.Bits.{odd, numberOf}
 use Rattle.standard.proofs.Bits.{weight-odd, numberOf-lt}
 
 -- the digits from place i on form a number

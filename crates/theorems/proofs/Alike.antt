@@ -14,11 +14,9 @@ use Rattle.standard.specs.Bits.{bitAt, bitsIn, bytesOf, bytesFor, nth}
 use Rattle.standard.specs.Scrambler.{pushAll, scramble, descramble}
 use Rattle.standard.specs.Control.{sequenceBytes, judged}
 use Rattle.standard.specs.Frame.{isControl, nextPlace, width, callBits, controls, startsIn, endsIn, nextDone, Outgoing, sequenceSent}
-use Rattle.standard.specs.Frame.{controlBits}
-use Rattle.standard.specs.Frame.{lineBits, frameSigns, frameOctets, sendFrame, sendNext, good, heardBits, Incoming, heardControl, heardData}
-use Rattle.standard.specs.Frame.{receiveFrame, sequenceSoFar}
-use Rattle.standard.specs.Frame.{lostSoFar, saidIn, receiveNext, outgoingFrames, sendFrames, sendAfter, incomingFrames, receiveFrames}
-use Rattle.standard.specs.Frame.{receiveAfter, receiveSaid}
+use Rattle.standard.specs.Frame.{controlBits, lineBits, frameSigns, frameOctets, sendFrame, sendNext, good, heardBits, Incoming}
+use Rattle.standard.specs.Frame.{heardControl, heardData, receiveFrame, sequenceSoFar, lostSoFar, saidIn, receiveNext, outgoingFrames}
+use Rattle.standard.specs.Frame.{sendFrames, sendAfter, incomingFrames, receiveFrames, receiveAfter, receiveSaid}
 use Rattle.standard.specs.Refusals.{historyTooLarge, doubtfulTooLarge, placeTooLarge, lineTests, shorter, frameTests}
 use Rattle.standard.specs.Calls.{accepted, over, SendCall, sendRefusal, sendBits, sendLeft, sendOctets, ReceiveCall, receiveCount}
 use Rattle.standard.specs.Calls.{receiveRefusal, receiveOctets, receiveLeft, receiveBytes, receiveMarked, receiveSays}

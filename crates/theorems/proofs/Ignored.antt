@@ -13,8 +13,7 @@ use Rattle.standard.specs.Bits.{bitAt, field}
 use Rattle.standard.specs.Record.{topIndex, noRecord}
 use Rattle.standard.specs.Cp.{gamma, runPlace, indexPlace, startBit, cpCrc, indexIn, maskBitIn, halfIn, recordIn, crcMatches, startBitSet}
 use Rattle.standard.specs.Cp.{within, reserved, ignored}
-use Rattle.standard.specs.Refusals.{countTooSmall, syncBroken, indexTooLarge, lengthWrong, fixedBitWrong, rateTests}
-use Rattle.standard.specs.Refusals.{readTests}
+use Rattle.standard.specs.Refusals.{countTooSmall, syncBroken, indexTooLarge, lengthWrong, fixedBitWrong, rateTests, readTests}
 use Rattle.standard.specs.Calls.{accepted, ReadCall, readRefusal, readRecord}
 use Rattle.standard.specs.declared.Record.{Record}
 use Rattle.standard.proofs.Lists.{listFrom-ext, every, every-at, and-left, and-right, T→true, largest-ext}

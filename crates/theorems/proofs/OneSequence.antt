@@ -9,7 +9,7 @@ use native.Mathlib.Decide.{ℕ-discrete as decEq}
 use native.Mathlib.Nat.{eq-zero-or-pos}
 use native.Mathlib.Omega.{arith}
 use borrow.Author.Tests.{eq-eqb, ne-eqb, ltb-false}
-use lib.Dec.{eqb, ltb}
+use lib.Dec.{lit≤, eqb, ltb}
 use lib.ListN.{length, drop, length-append}
 use Rattle.standard.specs.Lists.{parts, lastOr, joined, each}
 use Rattle.standard.specs.Bits.{nth}
@@ -80,48 +80,42 @@ module _ {S F X : Type 0} (out : S → F → List X) (next : S → F → S) (On 
 abbrev doneAfter : ℕ → ℕ → ℕ
 doneAfter p d = cond (isControl true p) ((d + 1) % 16) d
 
--- how many frames away the next start is, and the next end
-abbrev toStart : ℕ → ℕ → ℕ
-toStart p d = 64 * ((16 - d) % 16) + (64 - p) % 64
+-- how many frames away the next control frame at sequence place e is
+abbrev away : ℕ → ℕ → ℕ → ℕ
+away e p d = 64 * ((e + 16 - d) % 16) + (64 - p) % 64
 
-abbrev toEnd : ℕ → ℕ → ℕ
-toEnd p d = 64 * (15 - d) + (64 - p) % 64
+record Step (e p d : ℕ) : Type 0 where
+  pub wait : zero < away e p d → (isControl true p && eqb d e ≡ false) × (away e (nextPlace true p) (doneAfter p d) + 1 ≡ away e p d)
+  pub hit : away e p d ≡ 0 → away e (nextPlace true p) (doneAfter p d) ≡ 1023
 
--- the control frame at sequence place e is so far away
-record Step (far : ℕ → ℕ → ℕ) (e p d : ℕ) : Type 0 where
-  pub wait : zero < far p d → (isControl true p && eqb d e ≡ false) × (far (nextPlace true p) (doneAfter p d) + 1 ≡ far p d)
-  pub hit : far p d ≡ 0 → far (nextPlace true p) (doneAfter p d) ≡ 1023
-
--- control frames left after one more
-left : (d : ℕ) → zero < d → d ≤ 15 → (16 - (d + 1) % 16) % 16 ≡ 15 - d
-left d a b = go (decEq d 15)
+-- after one more control frame one fewer is left, and after itself 15 are
+fewer : (e d : ℕ) → e ≤ 15 → d ≤ 15 → (d ≡ e → ⊥) → (e + 16 - (d + 1) % 16) % 16 + 1 ≡ (e + 16 - d) % 16
+fewer e d a b n = go (decEq d 15)
   where
-    go : Dec (d ≡ 15) → (16 - (d + 1) % 16) % 16 ≡ 15 - d
-    go (yes e) = rw e
-    go (no e) = let z : (d + 1) % 16 ≡ d + 1 = omega arith in rw z (omega arith)
+    go : Dec (d ≡ 15) → (e + 16 - (d + 1) % 16) % 16 + 1 ≡ (e + 16 - d) % 16
+    go (yes z) = rw z (omega arith)
+    go (no z) = let k : (d + 1) % 16 ≡ d + 1 = omega arith in rw k (omega arith)
 
-start-step : (p d : ℕ) → p ≤ 63 → d ≤ 15 → Step toStart 0 p d
-start-step p d a b = go (decEq p 0) (decEq d 0)
+round : (d : ℕ) → d ≤ 15 → (d + 16 - (d + 1) % 16) % 16 ≡ 15
+round d h = go (decEq d 15)
   where
-    go : Dec (p ≡ 0) → Dec (d ≡ 0) → Step toStart 0 p d
-    go (yes z) (yes y) = record { wait = λ h. absurd (omega arith); hit = λ h. rw (eq-eqb p 0 z) (omega arith) }
-    go (yes z) (no y) =
-        let low : (16 - d) % 16 ≡ 16 - d = omega arith in
-        record {
-          wait = λ h. (rw (eq-eqb p 0 z) (ne-eqb d 0 y), rw (eq-eqb p 0 z) (omega (arith, left d (omega arith) b)));
-          hit = λ h. absurd (omega arith);
-        }
-    go (no z) y = record { wait = λ h. (rw (ne-eqb p 0 z), rw (ne-eqb p 0 z) (omega arith)); hit = λ h. absurd (omega arith) }
+    go : Dec (d ≡ 15) → (d + 16 - (d + 1) % 16) % 16 ≡ 15
+    go (yes z) = rw z
+    go (no z) = let k : (d + 1) % 16 ≡ d + 1 = omega arith in rw k (omega arith)
 
-end-step : (p d : ℕ) → p ≤ 63 → d ≤ 15 → Step toEnd 15 p d
-end-step p d a b = go (decEq p 0) (decEq d 15)
+ahead : (x y : ℕ) → x + 1 ≡ y → 64 * x + 63 + 1 ≡ 64 * y + 0
+ahead x y e = omega arith
+
+step : (e p d : ℕ) → e ≤ 15 → p ≤ 63 → d ≤ 15 → Step e p d
+step e p d l a b = go (decEq p 0) (decEq d e)
   where
-    go : Dec (p ≡ 0) → Dec (d ≡ 15) → Step toEnd 15 p d
-    go (yes z) (yes y) = record { wait = λ h. absurd (omega arith); hit = λ h. rw (eq-eqb p 0 z) (omega arith) }
+    go : Dec (p ≡ 0) → Dec (d ≡ e) → Step e p d
+    go (yes z) (yes y) =
+        record { wait = λ h. absurd (omega arith); hit = λ h. rw (eq-eqb p 0 z, ← y, round d b, z) }
     go (yes z) (no y) =
         record {
-          wait = λ h. (rw (eq-eqb p 0 z) (ne-eqb d 15 y), rw (eq-eqb p 0 z) (omega arith));
-          hit = λ h. absurd (omega arith);
+          wait = λ h. (rw (eq-eqb p 0 z) (ne-eqb d e y), rw (eq-eqb p 0 z, z) (ahead _ _ (fewer e d l b y)));
+          hit = λ h. absurd (omega (arith, fewer e d l b y));
         }
     go (no z) y = record { wait = λ h. (rw (ne-eqb p 0 z), rw (ne-eqb p 0 z) (omega arith)); hit = λ h. absurd (omega arith) }
 
@@ -164,9 +158,9 @@ starts-few : (on : Bool) (st : LineState) (fs : List Outgoing) → Ok st → All
 unfolding sendNext
 starts-few false st fs k a h = omega (arith, ap length (all-silent startOut sendNext (HasOut false) (λ z f e. rw e) st fs a))
 starts-few true st fs k a h =
-    one-only startOut sendNext (HasOut true) Ok ok-send (λ z. toStart (z .place) (z .done))
-    (λ z f e q d. let w = start-step (z .place) (z .done) (q .0) (q .1) .wait d in (rw (e, w .0), rw e (w .1)))
-    (λ z f e q d. (out-one (startsIn z (f .control)) f, rw e (start-step (z .place) (z .done) (q .0) (q .1) .hit d)))
+    one-only startOut sendNext (HasOut true) Ok ok-send (λ z. away 0 (z .place) (z .done))
+    (λ z f e q d. let w = step 0 (z .place) (z .done) (lit≤ tt) (q .0) (q .1) .wait d in (rw (e, w .0), rw e (w .1)))
+    (λ z f e q d. (out-one (startsIn z (f .control)) f, rw e (step 0 (z .place) (z .done) (lit≤ tt) (q .0) (q .1) .hit d)))
     st fs a k (omega arith)
 
 -- the receiver
@@ -187,9 +181,9 @@ module _ (r : Record) (l : Law) where
   unfolding saidIn receiveNext
   ends-few false st ys k a h = omega (arith, ap length (all-silent (saidIn r l) (receiveNext r l) (HasIn false) (λ z y e. rw e) st ys a))
   ends-few true st ys k a h =
-      one-only (saidIn r l) (receiveNext r l) (HasIn true) Ok ok-receive (λ z. toEnd (z .place) (z .done))
-      (λ z y e q d. let w = end-step (z .place) (z .done) (q .0) (q .1) .wait d in (rw (e, w .0), rw e (w .1)))
-      (λ z y e q d. (out-one (endsIn z (y .control)) _, rw e (end-step (z .place) (z .done) (q .0) (q .1) .hit d)))
+      one-only (saidIn r l) (receiveNext r l) (HasIn true) Ok ok-receive (λ z. away 15 (z .place) (z .done))
+      (λ z y e q d. let w = step 15 (z .place) (z .done) (lit≤ tt) (q .0) (q .1) .wait d in (rw (e, w .0), rw e (w .1)))
+      (λ z y e q d. (out-one (endsIn z (y .control)) _, rw e (step 15 (z .place) (z .done) (lit≤ tt) (q .0) (q .1) .hit d)))
       st ys a k (omega arith)
 
   said-few : (on : Bool) (n : ℕ) (st : LineState) (os : List ℕ) → placeTooLarge st ≡ false → n ≤ 1024

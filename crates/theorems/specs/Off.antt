@@ -11,8 +11,7 @@ use Rattle.standard.specs.declared.Law.{Law}
 use Rattle.standard.specs.declared.LineState.{LineState}
 use Rattle.standard.specs.declared.Record.{Record}
 use Rattle.theorems.specs.Runs.{AllCalls, sends, receives, sent, octetsRead, sendChoices, SendsWith, ReceivesWith, Damage, Carried}
-use Rattle.theorems.specs.Runs.{begins}
-use Rattle.theorems.specs.Runs.{Run}
+use Rattle.theorems.specs.Runs.{begins, Run}
 
 -- the choice is off in each accepted call
 abbrev pub SendsOff : LineState → List SendCall → Type 0

@@ -18,10 +18,9 @@ use Rattle.standard.specs.Control.{sequenceBit, sequenceBytes}
 use Rattle.standard.specs.Frame.{callBits, controls, startsIn, sequenceSent, sendNext, Incoming, sequenceSoFar, saidIn, receiveNext}
 use Rattle.standard.specs.Frame.{outgoingFrames, sendAfter, incomingFrames, receiveAfter}
 use Rattle.standard.specs.Refusals.{historyTooLarge, shorter, readTests}
-use Rattle.standard.specs.Calls.{ReadCall, readCall, readRefusal, readRecord}
-use Rattle.standard.specs.Calls.{accepted, over, SendCall, sendCall, sendBits, sendRefusal, sendLeft, sendOctets}
-use Rattle.standard.specs.Calls.{ReceiveCall, receiveCall, receiveOctets, receiveRefusal, receiveLeft, receiveBytes, receiveMarked}
-use Rattle.standard.specs.Calls.{receiveSays}
+use Rattle.standard.specs.Calls.{ReadCall, readCall, readRefusal, readRecord, accepted, over, SendCall, sendCall, sendBits, sendRefusal}
+use Rattle.standard.specs.Calls.{sendLeft, sendOctets, ReceiveCall, receiveCall, receiveOctets, receiveRefusal, receiveLeft, receiveBytes}
+use Rattle.standard.specs.Calls.{receiveMarked, receiveSays}
 use Rattle.standard.specs.declared.Law.{Law}
 use Rattle.standard.specs.declared.LineState.{LineState}
 use Rattle.standard.specs.declared.Record.{Record}
@@ -33,8 +32,8 @@ use Rattle.standard.proofs.Scrambler.{pushAll-lt}
 use Rattle.standard.proofs.Refusals.{passed}
 use Rattle.standard.proofs.Calls.{sends-own, receives-own}
 use Rattle.theorems.specs.RoundTrip.{Shaped}
-use Rattle.theorems.specs.Runs.{overCalls, AllCalls, sends, receives, message, sent, octetsRead, handedOver, marksGiven}
-use Rattle.theorems.specs.Runs.{sendChoices, receiveChoices, framesRead, stateBefore, SendsWith, ReceivesWith, Damage, Run}
+use Rattle.theorems.specs.Runs.{overCalls, AllCalls, sends, receives, message, sent, octetsRead, handedOver, marksGiven, sendChoices}
+use Rattle.theorems.specs.Runs.{receiveChoices, framesRead, stateBefore, SendsWith, ReceivesWith, Damage, Run}
 use Rattle.theorems.specs.Channel.{spoken, saidAt, saidGiven}
 use Rattle.theorems.proofs.Runs.{runs, messages-differ}
 use Rattle.theorems.proofs.Counts.{counts}
@@ -48,8 +47,8 @@ use Rattle.v91_c.specs.Interface.{lawOf, answered, frameAnswer, stateLeft, v91R
 use Rattle.v91_c.specs.Interface.{v91Receive}
 use Rattle.theorems_c.specs.Runs.{CSend, afterSend, cSends, cSendLeft, cMessage, cSent, cSendChoices, CSendsWith, CReceive}
 use Rattle.theorems_c.specs.Runs.{afterReceive, cReceives, cReceiveLeft, cOctetsRead, cHandedOver, cMarksGiven, cReceiveChoices}
-use Rattle.theorems_c.specs.Runs.{cFramesRead, cStateBefore, CReceivesWith, CRun, CRunsDeliver, CMessagesDiffer, CCountsHold}
-use Rattle.theorems_c.specs.Runs.{cSaidAt, spokenIn, cSaidGiven, CSaid, CRecordRead}
+use Rattle.theorems_c.specs.Runs.{cFramesRead, cStateBefore, CReceivesWith, CRun, CRunsDeliver, CMessagesDiffer, CCountsHold, cSaidAt}
+use Rattle.theorems_c.specs.Runs.{spokenIn, cSaidGiven, CSaid, CRecordRead}
 use Rattle.v91_c.proofs.Answers.{frame-short, frame-long}
 
 -- ---- two lists of calls: the accepted calls of one, with what each is for the other

@@ -7,10 +7,9 @@ use lib.ListN.{length}
 use Rattle.standard.specs.First.{Answer, Test, test, first}
 use Rattle.standard.specs.Refusals.{shorter, readTests, planTests}
 use Rattle.standard.specs.Dil.{defaultDil}
-use Rattle.standard.specs.Calls.{accepted, over, readCall, readRecord, writeCall, writeRefusal, writeBitCount, writeBytes}
-use Rattle.standard.specs.Calls.{sendCall, sendRefusal, sendLeft, sendOctets}
-use Rattle.standard.specs.Calls.{receiveCall, receiveRefusal, receiveLeft, receiveBytes, receiveMarked, receiveSays}
-use Rattle.standard.specs.Calls.{dilCall, dilRefusal, dilOctets, planCall, planHalves, planSum}
+use Rattle.standard.specs.Calls.{accepted, over, readCall, readRecord, writeCall, writeRefusal, writeBitCount, writeBytes, sendCall}
+use Rattle.standard.specs.Calls.{sendRefusal, sendLeft, sendOctets, receiveCall, receiveRefusal, receiveLeft, receiveBytes, receiveMarked}
+use Rattle.standard.specs.Calls.{receiveSays, dilCall, dilRefusal, dilOctets, planCall, planHalves, planSum}
 use Rattle.standard.specs.declared.Law.{Law}
 use Rattle.standard.specs.declared.Law.the-variants.{Mu, A}
 use Rattle.standard.specs.declared.LineState.{LineState}

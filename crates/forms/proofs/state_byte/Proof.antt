@@ -2,7 +2,6 @@
 use native.Mathlib.Omega.{arith}
 use borrow.Author.Tests.{lt-ltb, le-ltb}
 use borrow.Author.Needs.{needs}
-use Rattle.standard.proofs.Words.{byte-weight}
 use Rattle.forms.specs.StateBytes.{stateByte}
 use Rattle.forms.proofs.state_byte.Statement.{statement}
 use Rattle.forms.proofs.state_byte.Tie as tie

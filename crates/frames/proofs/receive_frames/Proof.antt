@@ -8,7 +8,7 @@ use lib.Dec.{eqb}
 use lib.ListN.{length, getD, take, drop}
 use Rattle.standard.specs.Lists.{lastOr}
 use Rattle.standard.specs.Bits.{bytesFor, bytesOf, nth}
-use Rattle.standard.specs.Frame.{isControl, width, callBits, endsIn, sixIn, receiveFrames, receiveAfter, receiveSaid}
+use Rattle.standard.specs.Frame.{isControl, width, callBits, sixIn, receiveFrames, receiveAfter, receiveSaid}
 use Rattle.standard.specs.Calls.{over}
 use Rattle.standard.specs.declared.LineState.{LineState}
 use Rattle.standard.specs.declared.Record.{Record}

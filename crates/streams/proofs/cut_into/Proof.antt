@@ -1,5 +1,4 @@
 -- After n turns the first n frames are cut. Assumes nothing.
-use mathlib.Core.Path.{_≡_}
 use Prim.Native.Nat.{_-_}
 use native.Mathlib.Omega.{arith}
 use Rattle.standard.specs.Frame.{callBits}

@@ -1,7 +1,6 @@
 -- After each turn the digits from place i on form the number. Assumes nothing.
 use mathlib.Core.Path.{_≡_}
 use native.Mathlib.Omega.{arith}
-use lib.ListN.{length}
 use Rattle.streams.proofs.Digits.{Formed, formed-none, formed-more, formed-small}
 use Rattle.streams.proofs.number_of.Statement.{statement}
 use Rattle.streams.proofs.number_of.Tie as tie
