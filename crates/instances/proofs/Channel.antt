@@ -40,9 +40,10 @@ use Rattle.standard.proofs.Refusals.{record-numbered}
 use Rattle.theorems.specs.Examples.{common}
 use Rattle.theorems.specs.Runs.{overCalls, AllCalls, sends, receives, message, sent, octetsRead, sendChoices, receiveChoices, framesRead}
 use Rattle.theorems.specs.Runs.{SendsWith, ReceivesWith, Damage, frames, Carried, Run}
-use Rattle.theorems.specs.Channel.{framesSent, controlSent, Steady, saidAt, saidGiven, StartsAt, Whole, ControlAt}
+use Rattle.theorems.specs.Channel.{framesSent, controlSent, Steady, Placed, saidAt, saidGiven, StartsAt, Whole, ControlAt}
 use Rattle.theorems.proofs.OverCalls.{choice, SendRun, send-run}
 use Rattle.theorems.proofs.Runs.{many}
+use Rattle.theorems.proofs.Places.{send-placed, receive-placed}
 use Rattle.theorems.proofs.OneSequence.{calls-say}
 use Rattle.theorems.proofs.Channel.{sequences-right}
 
@@ -51,26 +52,12 @@ use Rattle.theorems.proofs.Channel.{sequences-right}
 record Ready (st : LineState) : Type 0 where
   pub history : st .history < 2 ^ 23
   pub doubtful : st .doubtful ≤ 24
-  pub place : st .place < 64
-  pub done : st .done < 16
-
-next-place : (on : Bool) (p : ℕ) → p < 64 → nextPlace on p < 64
-next-place true p h = omega arith
-next-place false p h = h
-
-next-done : (b : Bool) (d : ℕ) → d < 16 → cond b ((d + 1) % 16) d < 16
-next-done true d h = omega arith
-next-done false d h = h
+  pub places : Placed st
 
 send-ready : (st : LineState) (f : Outgoing) → Ready st → Ready (sendNext st f)
 unfolding sendNext
 send-ready st f k =
-    record {
-      history = pushAll-lt (st .history) _ (k .history);
-      doubtful = k .doubtful;
-      place = next-place (f .control) (st .place) (k .place);
-      done = next-done (controls st (f .control)) (st .done) (k .done);
-    }
+    record { history = pushAll-lt (st .history) _ (k .history); doubtful = k .doubtful; places = send-placed st f (k .places) }
 
 receive-ready : (r : Record) (l : Law) (st : LineState) (y : Incoming) → Ready st → Ready (receiveNext r l st y)
 unfolding receiveNext
@@ -78,8 +65,7 @@ receive-ready r l st y k =
     record {
       history = pushAll-lt (st .history) _ (k .history);
       doubtful = doubtful-le r l st y (k .doubtful);
-      place = next-place (y .control) (st .place) (k .place);
-      done = next-done (controls st (y .control)) (st .done) (k .done);
+      places = receive-placed r l st y (k .places);
     }
 
 sent-ready : (st : LineState) (c : SendCall) → Ready st → Ready (sendLeft st c)
@@ -112,7 +98,7 @@ accepts st n a b k h e f =
         lt-leb (2 ^ 23) (st .history) (k .history),
         (
           le-ltb 24 (st .doubtful) (k .doubtful),
-          (ap₂ _||_ (le-ltb 63 (st .place) (omega arith)) (le-ltb 15 (st .done) (omega arith)), (le-ltb 1024 n h, tt)),
+          (ap₂ _||_ (le-ltb 63 (st .place) (k .places .0)) (le-ltb 15 (st .done) (k .places .1)), (le-ltb 1024 n h, tt)),
         ),
       ),
     ))
@@ -403,10 +389,10 @@ begun = record { history = 77; sign = false; doubtful = 24; place = 0; done = 0;
 
 fresh-ready : Ready fresh
 unfolding fresh
-fresh-ready = record { history = lit< tt; doubtful = lit≤ tt; place = lit< tt; done = lit< tt }
+fresh-ready = record { history = lit< tt; doubtful = lit≤ tt; places = (lit≤ tt, lit≤ tt) }
 
 begun-ready : Ready begun
-begun-ready = record { history = lit< tt; doubtful = lit≤ tt; place = lit< tt; done = lit< tt }
+begun-ready = record { history = lit< tt; doubtful = lit≤ tt; places = (lit≤ tt, lit≤ tt) }
 
 short : Within 361 sentIn
 short = (lit≤ tt, (lit≤ tt, (lit≤ tt, tt)))

@@ -182,6 +182,13 @@ unfolding frameTests lineTests bufferTests recordTests rateTests emptyTests empt
 not-eighteen r st n readShort writeShort h =
     first-says 18 (frameTests r st n readShort writeShort) (lit< tt) (rw (le-ltb 24 (st .doubtful) h) refl)
 
+-- A.2: one in a state whose places are 63 and 15 at most does not get 19
+pub not-nineteen : (r : Record) (st : LineState) (n : ℕ) (readShort writeShort : Bool) → st .place ≤ 63 → st .done ≤ 15
+    → first (frameTests r st n readShort writeShort) .number ≡ 19 → ⊥
+unfolding frameTests lineTests bufferTests recordTests rateTests emptyTests emptyTest listFrom placeTooLarge
+not-nineteen r st n readShort writeShort p d =
+    first-says 19 (frameTests r st n readShort writeShort) (lit< tt) (rw (le-ltb 63 (st .place) p, le-ltb 15 (st .done) d) refl)
+
 pub few-passed : (r : Record) (st : LineState) (n : ℕ) (readShort writeShort : Bool) → Passed r st n readShort writeShort → n ≤ 1024
 unfolding tooManyFrames
 few-passed r st n readShort writeShort p = ltb-false 1024 n (p .few)

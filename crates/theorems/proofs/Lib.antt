@@ -4,6 +4,7 @@ pub mod OverCalls
 pub mod Runs
 pub mod Controls
 pub mod Sequences
+pub mod Places
 pub mod OneSequence
 pub mod Channel
 pub mod Counts

@@ -27,8 +27,9 @@ use Rattle.standard.proofs.Lists.{or-none, of-either}
 use Rattle.standard.proofs.Frame.{length-outgoing, length-incoming}
 use Rattle.standard.proofs.Calls.{sends-own, receives-own}
 use Rattle.theorems.specs.Runs.{receives, framesRead, ReceivesWith}
-use Rattle.theorems.specs.Channel.{starting, ending, OneSequence, saidAt, spoken, saidGiven, CallsSay}
+use Rattle.theorems.specs.Channel.{Placed, starting, ending, OneSequence, saidAt, spoken, saidGiven, CallsSay}
 use Rattle.theorems.proofs.OverCalls.{one-run, Withʳ, framesIn, ownʳ, refusedʳ, movedʳ}
+use Rattle.theorems.proofs.Places.{send-placed, receive-placed}
 
 -- ---- for any frames: the next one that gives something is so many frames away, and the one after that 1,024 later
 
@@ -119,16 +120,10 @@ step e p d l a b = go (decEq p 0) (decEq d e)
         }
     go (no z) y = record { wait = λ h. (rw (ne-eqb p 0 z), rw (ne-eqb p 0 z) (omega arith)); hit = λ h. absurd (omega arith) }
 
--- places that 19 does not turn away
-abbrev Ok : LineState → Type 0
-Ok st = (st .place ≤ 63) × (st .done ≤ 15)
-
-done-le : (p d : ℕ) → d ≤ 15 → doneAfter p d ≤ 15
-done-le p d h = of-either (λ (x : ℕ). x ≤ 15) (eqb p 0) (omega arith) h
-
-ok : (st : LineState) → placeTooLarge st ≡ false → Ok st
+-- of a state that 19 does not turn away
+placed : (st : LineState) → placeTooLarge st ≡ false → Placed st
 unfolding placeTooLarge
-ok st e =
+placed st e =
     let p = or-none (ltb 63 (st .place)) (ltb 15 (st .done)) e in
     (ltb-false 63 (st .place) (p .0), ltb-false 15 (st .done) (p .1))
 
@@ -149,16 +144,12 @@ unfolding outgoingFrames
 all-out r on w zero p ds = tt
 all-out r on w (suc n) p ds = (refl, all-out r on w n (nextPlace on p) (drop (width r (isControl on p)) ds))
 
-ok-send : (st : LineState) (f : Outgoing) → f .control ≡ true → Ok st → Ok (sendNext st f)
-unfolding sendNext
-ok-send st f e k = rw e (omega arith, done-le (st .place) (st .done) (k .1))
-
-starts-few : (on : Bool) (st : LineState) (fs : List Outgoing) → Ok st → All startOut sendNext (HasOut on) fs → length fs ≤ 1024
+starts-few : (on : Bool) (st : LineState) (fs : List Outgoing) → Placed st → All startOut sendNext (HasOut on) fs → length fs ≤ 1024
     → length (joined (each startOut sendNext st fs)) ≤ 1
 unfolding sendNext
 starts-few false st fs k a h = omega (arith, ap length (all-silent startOut sendNext (HasOut false) (λ z f e. rw e) st fs a))
 starts-few true st fs k a h =
-    one-only startOut sendNext (HasOut true) Ok ok-send (λ z. away 0 (z .place) (z .done))
+    one-only startOut sendNext (HasOut true) Placed (λ z f e. send-placed z f) (λ z. away 0 (z .place) (z .done))
     (λ z f e q d. let w = step 0 (z .place) (z .done) (lit≤ tt) (q .0) (q .1) .wait d in (rw (e, w .0), rw e (w .1)))
     (λ z f e q d. (out-one (startsIn z (f .control)) f, rw e (step 0 (z .place) (z .done) (lit≤ tt) (q .0) (q .1) .hit d)))
     st fs a k (omega arith)
@@ -172,16 +163,12 @@ module _ (r : Record) (l : Law) where
   all-in on [] = tt
   all-in on (x ∷ xs) = (refl, all-in on xs)
 
-  ok-receive : (st : LineState) (y : Incoming) → y .control ≡ true → Ok st → Ok (receiveNext r l st y)
-  unfolding receiveNext
-  ok-receive st y e k = rw e (omega arith, done-le (st .place) (st .done) (k .1))
-
-  ends-few : (on : Bool) (st : LineState) (ys : List Incoming) → Ok st → All (saidIn r l) (receiveNext r l) (HasIn on) ys → length ys ≤ 1024
+  ends-few : (on : Bool) (st : LineState) (ys : List Incoming) → Placed st → All (saidIn r l) (receiveNext r l) (HasIn on) ys → length ys ≤ 1024
       → length (joined (each (saidIn r l) (receiveNext r l) st ys)) ≤ 1
   unfolding saidIn receiveNext
   ends-few false st ys k a h = omega (arith, ap length (all-silent (saidIn r l) (receiveNext r l) (HasIn false) (λ z y e. rw e) st ys a))
   ends-few true st ys k a h =
-      one-only (saidIn r l) (receiveNext r l) (HasIn true) Ok ok-receive (λ z. away 15 (z .place) (z .done))
+      one-only (saidIn r l) (receiveNext r l) (HasIn true) Placed (λ z y e. receive-placed r l z y) (λ z. away 15 (z .place) (z .done))
       (λ z y e q d. let w = step 15 (z .place) (z .done) (lit≤ tt) (q .0) (q .1) .wait d in (rw (e, w .0), rw e (w .1)))
       (λ z y e q d. (out-one (endsIn z (y .control)) _, rw e (step 15 (z .place) (z .done) (lit≤ tt) (q .0) (q .1) .hit d)))
       st ys a k (omega arith)
@@ -190,7 +177,7 @@ module _ (r : Record) (l : Law) where
       → length (receiveSaid r l on n st os) ≤ 1
   unfolding receiveSaid incomingFrames
   said-few on n st os k h =
-      ends-few on st (incomingFrames on n os) (ok st k) (all-in on (parts 6 n os)) (omega (arith, length-incoming on n os))
+      ends-few on st (incomingFrames on n os) (placed st k) (all-in on (parts 6 n os)) (omega (arith, length-incoming on n os))
 
 pub one-sequence : OneSequence
 unfolding starting ending
@@ -200,7 +187,7 @@ one-sequence =
           let o = sends-own st c e in
           let fs = outgoingFrames (c .cp) (c .control) (c .sequence) (st .place) (c .frames) (sendBits st c) in
           let few : length (joined (each startOut sendNext st fs)) ≤ 1
-          = starts-few (c .control) st fs (ok st (o .places))
+          = starts-few (c .control) st fs (placed st (o .places))
           (all-out (c .cp) (c .control) (c .sequence) (c .frames) (st .place) (sendBits st c))
           (omega (arith, o .few, length-outgoing (c .cp) (c .control) (c .sequence) (st .place) (c .frames) (sendBits st c))) in
           omega arith;

@@ -10,7 +10,8 @@ use Rattle.standard.specs.Lists.{listFrom, joined, each, after}
 use Rattle.standard.specs.Bits.{nth}
 use Rattle.standard.specs.Control.{sequenceBit, judged}
 use Rattle.standard.specs.Frame.{startsIn, Outgoing, controlBits, sendNext, heardControl, saidIn, receiveNext, outgoingFrames, receiveSaid}
-use Rattle.standard.specs.Calls.{SendCall, sendBits, sendLeft, ReceiveCall, receiveOctets, receiveLeft, receiveSays}
+use Rattle.standard.specs.Calls.{SendCall, sendRefusal, sendBits, sendLeft, ReceiveCall, receiveRefusal, receiveOctets, receiveLeft}
+use Rattle.standard.specs.Calls.{receiveSays}
 use Rattle.standard.specs.declared.Law.{Law}
 use Rattle.standard.specs.declared.LineState.{LineState}
 use Rattle.standard.specs.declared.Record.{Record}
@@ -45,6 +46,20 @@ ControlsDeliver =
     → Run r l s t sending receiving w line m
     → (i : ℕ) → i < m → Outside w i → (k : ℕ) → (1 ≤ k) ⊎ Steady w s t i
     → nth (getD (controlHeard r l t receiving) i []) k ≡ nth (getD (controlSent s sending) i []) k
+
+-- ---- the places
+
+-- 'frame place (0 to 63 ..), sequence place (0 to 15 ..)'
+abbrev pub Placed : LineState → Type 0
+Placed st = (st .place ≤ 63) × (st .done ≤ 15)
+
+-- they stay so, whatever the calls, so a call after any others does not get 19
+pub record PlacesKept : Type 0 where
+  pub sent : (s : LineState) (cs : List SendCall) → Placed s → Placed (after sendLeft s cs)
+  pub received : (t : LineState) (cs : List ReceiveCall) → Placed t → Placed (after receiveLeft t cs)
+  pub sender : (s : LineState) (cs : List SendCall) (c : SendCall) → Placed s → sendRefusal (after sendLeft s cs) c .number ≡ 19 → ⊥
+  pub receiver : (t : LineState) (cs : List ReceiveCall) (c : ReceiveCall) → Placed t
+      → receiveRefusal (after receiveLeft t cs) c .number ≡ 19 → ⊥
 
 -- ---- at most one sequence starts and at most one ends in a call
 
