@@ -1,28 +1,26 @@
 -- The parts of a frame as code has them, and what a frame asks of its caller. Assumes nothing.
 use mathlib.Core.Path.{_≡_}
-use Prim.Native.Nat.{ℕ, _+_, _%_, _≤_, _<_, _^_}
+use Prim.Native.Nat.{ℕ, _%_, _≤_, _<_, _^_}
 use mathlib.Core.Bool.{Bool}
 use mathlib.Core.List.{List, []}
-use lib.Dec.{eqb}
 use lib.ListN.{getD}
 use Rattle.standard.specs.Lists.{listFrom}
-use Rattle.standard.specs.First.{Test, test}
 use Rattle.standard.specs.Bits.{bit, numberOf, bitsOf}
 use Rattle.standard.specs.Record.{K}
 use Rattle.standard.specs.Constellation.{sizes}
 use Rattle.standard.specs.Modulus.{product}
 use Rattle.standard.specs.Octets.{octet}
-use Rattle.standard.specs.Frame.{isControl, width, Outgoing, sendFrame, sendNext, ucodeAt, mark as markOf, Incoming, receiveFrame}
-use Rattle.standard.specs.Frame.{receiveNext}
+use Rattle.standard.specs.Frame.{isControl, width, Outgoing, sendFrame, sendNext, mark as markOf, Incoming, receiveFrame, receiveNext}
 use Rattle.standard.specs.declared.Law.{Law}
 use Rattle.standard.specs.declared.LineState.{LineState}
 use Rattle.standard.specs.declared.Record.{Record}
 use Rattle.mapping.specs.declared.Mapping.{Mapping}
-use Rattle.mapping.specs.Tables.{mappingOf, pointTables, labelTables}
+use Rattle.mapping.specs.Tables.{mappingOf, pointTables}
 use Rattle.frame.specs.declared.Carried.{Carried}
 use Rattle.frame.specs.declared.FrameReceived.{FrameReceived}
 use Rattle.coding.specs.Past.{turned}
 use Rattle.coding.specs.Reciprocals.{reciprocalOf}
+use Rattle.hearing.specs.Legible.{Legible}
 
 -- the line state that is carried, where bs has the sequence's bits
 abbrev pub stateOf : Carried → List ℕ → LineState
@@ -65,13 +63,7 @@ pub record SentAs (r : Record) (l : Law) (f : Outgoing) (x : Carried) (bs : List
   pub state : stateOf y cs ≡ sendNext (stateOf x bs) f
   pub bounded : Bounded y
 
--- six octets can be read with the record r: m and ls are drawn up of it
-pub record Legible (r : Record) (m : Mapping) (ls : List (List ℕ)) : Type 0 where
-  pub rate : r .drn ≤ 28
-  pub mapped : m ≡ mappingOf r
-  pub labels : ls ≡ labelTables r
-
--- and received in the carried state x
+-- six octets can be received with the record r in the carried state x
 pub record Receivable (r : Record) (m : Mapping) (ls : List (List ℕ)) (x : Carried) : Type 0 where
   pub legible : Legible r m ls
   pub bounded : Bounded x
@@ -86,11 +78,3 @@ pub record ReceivedAs (r : Record) (l : Law) (f : Incoming) (x : Carried) (bs : 
 -- the octet in interval i, of points by label, of labels and of signs as bits of a number
 unfoldable pub octetIn : Law → List (List ℕ) → List ℕ → ℕ → ℕ → ℕ
 octetIn l ps labels signs i = octet l (bit signs i) (getD (getD ps i []) (getD labels i 0) 0 % 128)
-
--- what the table by Ucode has for the octet in interval i
-unfoldable pub labelIn : Law → List (List ℕ) → List ℕ → ℕ → ℕ
-labelIn l ls os i = getD (getD ls i []) (ucodeAt l os i) 0
-
--- interval i has no label
-unfoldable pub noneTest : List ℕ → ℕ → Test
-noneTest found i = test (i + 1) (eqb (getD found i 0) 255)

@@ -46,7 +46,7 @@ pub fn send_frames(
     let mut used = 0;
     let mut n = 0;
     while n < frames {
-        let width = frame::width_of(mapping, frame::is_control(control, line.place));
+        let width = channel::width_of(mapping, channel::is_control(control, line.place));
         let bits = bits::field_at(bytes, used, width);
         let at = 6 * n;
         let end = at + 6;
@@ -123,14 +123,14 @@ pub fn receive_frames(
     while n < frames {
         let at = 6 * n;
         let end = at + 6;
-        let is_control = frame::is_control(control, line.place);
+        let is_control = channel::is_control(control, line.place);
         let ends = is_control & (line.done == 15);
         let six = &octets[at..end];
         let got = receive_frame(law, mapping, &labels, control, line, &mut sequence, six);
         pouring = bits::pour(
             bytes,
             pouring,
-            frame::width_of(mapping, is_control),
+            channel::width_of(mapping, is_control),
             got.bits,
         );
         marks[n] = got.mark;
