@@ -9,7 +9,6 @@ use lib.ListN.{length, take, drop, replicate, length-drop}
 use Rattle.standard.specs.Bits.{bitsIn, bytesOf, nth, numberOf, bitsOf}
 use Rattle.standard.specs.Record.{K, D}
 use Rattle.standard.specs.Scrambler.{pushAll, descramble}
-use Rattle.standard.specs.Modulus.{number}
 use Rattle.standard.specs.Frame.{isControl, nextPlace, width, signAt, good, heardBits, Incoming, heardControl, heardData, receiveFrame}
 use Rattle.standard.specs.Frame.{sequenceSoFar, lostSoFar, doubtfulAfter, receiveNext, sixIn}
 use Rattle.standard.specs.declared.Law.{Law}

@@ -26,7 +26,6 @@ ghost use mathlib.Core.Bool.{cond};
 ghost use Prim.Native.Nat.{ℕ, _<_, _^_};
 ghost use lib.ListN.{length, getD};
 ghost use Rattle.standard.specs.Lists.{listFrom};
-ghost use Rattle.standard.specs.First.{first};
 ghost use Rattle.standard.specs.Frame.{sixIn, doubtfulAfter};
 ghost use Rattle.standard.specs.declared.Record.{Record};
 ghost use Rattle.frame.specs.Parts.{stateOf, Bounded, outgoing, Sendable, SentAs, Receivable, ReceivedAs, octetIn};
