@@ -1,4 +1,4 @@
-/* How many frames, octets, CPs or plans a second the proved codec and the plain one manage, and the ratio of the two.
+/* How many frames, octets, CPs, states or plans a second the proved codec and the plain one manage, and the ratio of the two.
    Both run in this one process on buffers written before. A round times one codec and then the other, the first
    of them in turn; the first rounds warm up and do not count. Each figure is the median of the rounds that do, and
    beside the ratio stand its quartiles. Seconds are those of the processor, so that other programs disturb little. */
@@ -23,10 +23,13 @@ static const struct codec {
     uint32_t (*read_cp)(const uint8_t *, size_t, size_t, uint8_t *, size_t);
     uint32_t (*write_cp)(const uint8_t *, size_t, uint8_t *, size_t);
     uint32_t (*send_dil)(bool, uint8_t *, size_t);
+    uint32_t (*send_cp)(const uint8_t *, size_t, bool, uint8_t *, size_t, uint8_t *, size_t);
+    uint32_t (*find_state)(const uint8_t *, size_t, uint8_t *, size_t);
     uint32_t (*plan)(uint32_t, bool, uint32_t, uint64_t, uint8_t *, size_t);
 } codecs[CODECS] = {
-    { plain_send, plain_receive, plain_linear, plain_read_cp, plain_write_cp, plain_send_dil, plain_plan },
-    { v91_send, v91_receive, v91_linear, v91_read_cp, v91_write_cp, v91_send_dil, v91_plan },
+    { plain_send, plain_receive, plain_linear, plain_read_cp, plain_write_cp, plain_send_dil, plain_send_cp, plain_find_state,
+      plain_plan },
+    { v91_send, v91_receive, v91_linear, v91_read_cp, v91_write_cp, v91_send_dil, v91_send_cp, v91_find_state, v91_plan },
 };
 
 /* What the calls read, and what each codec writes. */
@@ -69,6 +72,17 @@ static uint32_t write_call(const struct codec *codec, struct written *to)
 static uint32_t dil_call(const struct codec *codec, struct written *to)
 {
     return codec->send_dil(false, to->octets, V91_DIL_OCTETS) - V91_DIL_OCTETS;
+}
+
+static uint32_t send_cp_call(const struct codec *codec, struct written *to)
+{
+    return codec->send_cp(record, sizeof record, false, to->octets, sizeof to->octets, to->state, sizeof to->state)
+           - (uint32_t)V91_CP_OCTETS(cp_bits);
+}
+
+static uint32_t find_state_call(const struct codec *codec, struct written *to)
+{
+    return codec->find_state(line, V91_FIND_OCTETS, to->state, sizeof to->state);
 }
 
 static uint32_t plan_call(const struct codec *codec, struct written *to)
@@ -193,7 +207,7 @@ int main(void)
     for (size_t i = 0; i < sizeof bits; i++)
         bits[i] = (uint8_t)(i * 2654435761u >> 13);
     printf("entry    K, g  count    plain/s   proved/s   ratio  quartiles"
-           "   (millions; frames, octets, CPs or plans)\n");
+           "   (millions; frames, octets, CPs, states or plans)\n");
     frames("send", send_call);
     frames("receive", receive_call);
     frames_on("send, on", send_call);
@@ -206,7 +220,9 @@ int main(void)
         make_masks(g);
         measure("read_cp", g, 1, read_call, 1000);
         measure("write_cp", g, 1, write_call, 1000);
+        measure("send_cp", g, V91_CP_OCTETS(cp_bits), send_cp_call, 1000);
     }
+    measure("find", 0, 1, find_state_call, 1000);
     measure("send_dil", 0, V91_DIL_OCTETS, dil_call, 1000);
     measure("plan", PLAN_K, 1, plan_call, 1000);
     return 0;

@@ -5,10 +5,11 @@
 LIBRARY is a shared object with the functions of v91.h under PREFIX, `v91_` or `plain_`. Compared are
 the answer and every byte of every buffer afterwards, with canary bytes before and behind it. In some
 runs of calls the codec's own bytes are held against what the count of doubtful bits promises, in others
-a sequence of the control channel goes through calls of any lengths. The test stops at the first
-difference with a line that shows the call; --show prints every call before it is made. The exit status
-is 0 if all was the same and every refusal, interval, mark, count and place that a state can hand in,
-and all that can be heard, came up, else 1.
+a sequence of the control channel goes through calls of any lengths, in others CP and E_s go before the
+data and the receiver begins in the line state found from them. The test stops at the first difference
+with a line that shows the call; --show prints every call before it is made. The exit status is 0 if all
+was the same and every refusal, interval, mark, count and place that a state can hand in, and all that
+can be heard, came up, else 1.
 """
 
 import argparse
@@ -25,6 +26,7 @@ sys.path.insert(0, str(Path(__file__).resolve().parent.parent / "reference"))
 
 import cases_cp
 import cases_frames
+import cases_start
 import control
 import cp
 import dil
@@ -33,11 +35,12 @@ import frames
 import linear
 import plan
 import record
-from samples import (Draw, a_number, a_record, a_sequence_place, a_sparse_record, a_state, faulty_record,
-                     with_places)
+import start as starts
+from samples import (Draw, a_number, a_record, a_sequence_place, a_sparse_record, a_state, empty_by_own,
+                     faulty_record, with_places)
 
 RECORD_BYTES, STATE_BYTES, HEARD_BYTES, PLAN_BYTES = 105, 21, 8, 24
-DOUBTFUL, FRAME_PLACE, SEQUENCE_PLACE = 5, 6, 7  # bytes of a state
+DOUBTFUL, FRAME_PLACE, SEQUENCE_PLACE = 5, 6, 7  # bytes of a state; history and last sign are before these
 IN_STATE = {"counts of doubtful bits": DOUBTFUL, "frame places": FRAME_PLACE, "sequence places": SEQUENCE_PLACE}
 TOLD = ("nothing", "a sequence", "a frame lost", "the pattern wrong", "the CRC wrong")
 DIL_OCTETS = dil.length(dil.TABLE_5)
@@ -49,6 +52,8 @@ ENTRIES = {
     "send": ("record", "a_law", "frames", "control", "sequence", "bits", "octets", "state"),
     "receive": ("record", "a_law", "frames", "control", "octets", "bits", "marks", "heard", "state"),
     "linear": ("a_law", "octets", "samples"),
+    "send_cp": ("record", "a_law", "octets", "state"),
+    "find_state": ("octets", "state"),
     "send_dil": ("a_law", "octets"),
     "plan": ("k", "a_law", "spacing", "ceiling", "plan"),
 }
@@ -63,6 +68,8 @@ REFUSALS = {
     "send": {4, *range(9, 20), 25},
     "receive": {4, *range(9, 20), 25},
     "linear": {17},
+    "send_cp": {4, *range(9, 13), 14, *range(16, 20), 25},
+    "find_state": {16},
     "send_dil": {17},
     "plan": {17, 26, 27, 28},
 }
@@ -72,6 +79,8 @@ PAIRS = {
     "send": cases_frames.pairs(),
     "receive": cases_frames.pairs(),
     "linear": [],
+    "send_cp": cases_frames.pairs(cases_start.NUMBERS),
+    "find_state": [],
     "send_dil": [],
     "plan": [(26, 27), (26, 28), (26, 17), (27, 17), (28, 17)],
 }
@@ -80,12 +89,18 @@ FAULTY = {  # how the reference makes a case in which given refusals hold, and w
     "write_cp": (cases_cp.faulty_writing, cases_cp.WRITER_NUMBERS),
     "send": (cases_frames.faulty_send, cases_frames.NUMBERS),
     "receive": (cases_frames.faulty_receive, cases_frames.NUMBERS),
+    "send_cp": (cases_start.faulty_sending, cases_start.NUMBERS),
 }
 CHANNEL_GROUPS = (
     cases_frames.every_place, cases_frames.places_alone, cases_frames.place_faults,
     cases_frames.every_bit_started, cases_frames.each_bit_wrong, cases_frames.reserved_bits,
     cases_frames.faults_at_the_end, cases_frames.lost_and_found, cases_frames.marked_control_frames,
     cases_frames.counted_control_frames, cases_frames.exact_buffers, cases_frames.ends_and_starts)
+START_GROUPS = (
+    cases_start.lengths, cases_start.rates, cases_start.histories, cases_start.fields_kept, cases_start.buffers,
+    cases_start.bounds, cases_start.faulty_cases, cases_start.sparse_records, cases_start.cp_after_cp,
+    cases_start.counts_of_octets, cases_start.each_bit_found, cases_start.any_octets, cases_start.octets_sent,
+    cases_start.states_beyond)
 ENOUGH = 20_000  # from so many calls on, all of these have to come up
 
 
@@ -97,11 +112,11 @@ def answer_to(refusal):
 
 
 def is_done(answer):
-    """Whether a call was done: 0, a bit count, 294 to 972, or the 1,500 octets of the default DIL.
+    """Whether a call was done: 0, a bit count, 294 to 972, or octets: of CP and E_s, 306 to 984, or of the DIL.
 
     25 with an interval is beyond 2^24.
     """
-    return answer == 0 or 294 <= answer <= 972 or answer == DIL_OCTETS
+    return answer == 0 or 294 <= answer <= 984 or answer == DIL_OCTETS
 
 
 def said(answer):
@@ -172,6 +187,29 @@ def want_linear(a_law, octets, samples):
     return answer_to(refusal), {"samples": struct.pack(f"<{room}i", *after)}
 
 
+def history_and_sign(state, form):
+    """The state buffer with another history and last sign: its other bytes stay as they are."""
+    return frames.pack_state(state)[:DOUBTFUL] + form[DOUBTFUL:]
+
+
+def want_send_cp(form, a_law, octets, state):
+    if len(form) < RECORD_BYTES or len(state) < STATE_BYTES:
+        return 16, {}
+    refusal, count, left, after = starts.send_cp(record_from(form), a_law, state_from(state), octets)
+    if refusal:
+        return answer_to(refusal), {}
+    return count, {"octets": after, "state": history_and_sign(left, state)}
+
+
+def want_find_state(octets, state):
+    if len(state) < STATE_BYTES:
+        return 16, {}
+    refusal, left = starts.find_state(octets, state_from(state))
+    if refusal:
+        return answer_to(refusal), {}
+    return 0, {"state": history_and_sign(left, state)}
+
+
 def want_send_dil(a_law, octets):
     refusal, after = dil.send_dil(a_law, octets)
     return answer_to(refusal) or DIL_OCTETS, {"octets": after}
@@ -187,7 +225,8 @@ def want_plan(k, a_law, spacing, ceiling, buffer):
 
 
 WANT = {"read_cp": want_read_cp, "write_cp": want_write_cp, "send": want_send,
-        "receive": want_receive, "linear": want_linear, "send_dil": want_send_dil, "plan": want_plan}
+        "receive": want_receive, "linear": want_linear, "send_cp": want_send_cp, "find_state": want_find_state,
+        "send_dil": want_send_dil, "plan": want_plan}
 
 
 # The codec under test
@@ -279,9 +318,10 @@ class Test:
         self.counts = {entry: Counter() for entry in ENTRIES}
         self.intervals = {entry: Counter() for entry in FAULTY}
         self.marks, self.told, self.short_heard = Counter(), Counter(), 0
-        self.handed_in = {entry: {what: set() for what in IN_STATE} for entry in ("send", "receive")}
-        self.promised, self.sequences = Counter(), Counter()
-        self.next_count = 0
+        self.handed_in = {entry: {what: set() for what in IN_STATE}
+                          for entry in ("send", "receive", "send_cp", "find_state")}
+        self.promised, self.sequences, self.openings = Counter(), Counter(), Counter()
+        self.next_count = self.next_start_count = 0
         self.held = {entry: set() for entry in ENTRIES}
         self.sets = [(entry, {number}) for entry in FAULTY for number in FAULTY[entry][1]]
         self.sets += [(entry, set(pair)) for entry in FAULTY for pair in PAIRS[entry]]
@@ -400,6 +440,19 @@ class Test:
                                   self.some(marks), self.heard(), self.state(state))
         return state if answer else state_from(after["state"])
 
+    def send_cp(self, rec, law, state):
+        """(Octets sent, state left)."""
+        needed = min(starts.octet_count(rec), 2000)
+        answer, after = self.call("send_cp", self.record(rec), law, self.some(self.length(needed)),
+                                  self.state(state))
+        done = is_done(answer)
+        return (after["octets"][:answer], state_from(after["state"])) if done else (b"", state)
+
+    def find_state(self, octets, state):
+        """The state left."""
+        answer, after = self.call("find_state", octets, self.state(state))
+        return state if answer else state_from(after["state"])
+
     def case(self, case):
         """A case of the reference's lists, with contents of our own in the buffers to be written."""
         kind, given = forms.arguments(case)
@@ -410,6 +463,11 @@ class Test:
             self.call(entry, self.record(given[0]), given[1])
         elif entry == "linear":
             self.call(entry, given[0], given[1], self.some(4 * len(given[2])))
+        elif entry == "send_cp":
+            rec, law, state, octets = given
+            self.call(entry, self.record(rec), law, self.some(len(octets)), self.state(state))
+        elif entry == "find_state":
+            self.call(entry, given[0], self.state(given[1]))
         elif entry == "send":
             rec, law, count, state, channel, number, data, octets = given
             self.call(entry, self.record(rec), law, count, channel, number, data, self.some(len(octets)),
@@ -464,20 +522,33 @@ class Test:
                 self.send(rec, law, frame_count, state, draw.below(2))
                 self.receive(rec, law, frame_count, draw.octets(6 * frame_count), state, draw.below(2))
 
+    def each_count_of_start(self):
+        """The next of these for send_cp and for find_state, which looks at none of them."""
+        draw, fields = self.draw, ("doubtful", "frame_place", "sequence_place")
+        for _ in range(8):
+            self.next_start_count = (self.next_start_count + 1) % 256
+            for field in fields:
+                state = a_state(draw)._replace(**{field: self.next_start_count})
+                self.call("send_cp", self.record(self.any_record()), draw.below(2), self.some(self.length(984)),
+                          frames.pack_state(state))
+            state = a_state(draw)._replace(**dict.fromkeys(fields, self.next_start_count))
+            octets = draw.octets(draw.pick((24, 25, draw.below(60))))
+            self.call("find_state", octets, frames.pack_state(state))
+
     def expect(self, holds, what):
         """Stop unless what is promised holds."""
         if not holds:
             raise Difference(f"call {self.made}: not as promised: {what}")
 
-    def sent_in_calls(self, rec, law, state, choices):
+    def sent_in_calls(self, rec, law, form, choices):
         """(Data bits, octets) of some calls of the sender, which leaves the count as it is."""
-        draw, message, line, form = self.draw, [], b"", frames.pack_state(state)
+        draw, message, line, doubtful = self.draw, [], b"", form[DOUBTFUL]
         for channel, count in cases_frames.cut_by_choice(draw, choices):
             widths = widths_of(rec, form[FRAME_PLACE], [channel] * count)
             data = draw.octets((sum(widths) + 7) // 8)
             answer, left = self.call("send", record.pack(rec), law, count, channel, a_number(draw), data,
                                      self.some(6 * count), form)
-            self.expect(answer == 0 and left["state"][DOUBTFUL] == state.doubtful, "the sender's count")
+            self.expect(answer == 0 and left["state"][DOUBTFUL] == doubtful, "the sender's count")
             message += [bit_at(data, n) for n in range(sum(widths))]
             line, form = line + left["octets"], left["state"]
         return message, line
@@ -508,27 +579,13 @@ class Test:
         self.expect(left["state"][DOUBTFUL] == count, f"the receiver's count is not {count}")
         return count
 
-    def distrusted(self):
-        """What the count of doubtful bits promises, by the codec's own octets, bits, marks and states.
+    def read_in_calls(self, rec, law, form, line, choices, message, altered):
+        """Some calls of the receiver, each held against what was sent: its frames' bits and its count.
 
-        Each frame that is altered is marked. The receiver begins cold, in any history and sign, or in the
-        sender's with any count up to 24. A good frame's bits past as many as the count before it are as sent.
-        The channel is off, or on and off by a choice at each frame.
+        `line` lists the frames, `altered` whether each is not as sent.
         """
-        draw, law, drn = self.draw, self.draw.below(2), self.draw.between(1, 28)
-        rec, start, cold = a_record(draw, drn), a_state(draw), draw.below(2)
-        choices = [0] * draw.between(1, 12)
-        if draw.below(2):
-            start = cases_frames.at_places(draw, draw.between(54, 64) % 64, a_sequence_place(draw))
-            choices = cases_frames.some_choices(draw, draw.between(1, 16))
-        message, sent = self.sent_in_calls(rec, law, start, choices)
-        line = [sent[n:n + 6] for n in range(0, len(sent), 6)]
-        altered = [drn < 28 and draw.below(3) == 0 for _ in line]  # at drn 28 every frame is good
-        line = [self.marked_instead(rec, law, frame) if hurt else frame for frame, hurt in zip(line, altered)]
-        count = 24 if cold else draw.between(0, 24)
-        other = with_places(draw, a_state(draw))._replace(frame_place=start.frame_place)
-        form, first, at = frames.pack_state((other if cold else start)._replace(doubtful=count)), 0, 0
-        for channel, frame_count in cases_frames.cut_by_choice(draw, choices):
+        first, at, count = 0, 0, form[DOUBTFUL]
+        for channel, frame_count in cases_frames.cut_by_choice(self.draw, choices):
             part = line[first:first + frame_count]
             widths = widths_of(rec, form[FRAME_PLACE], [channel] * frame_count)
             bits, marks = self.some((sum(widths) + 7) // 8), self.some(frame_count)
@@ -537,7 +594,72 @@ class Test:
             self.expect(answer == 0, "the receiver declines")
             count = self.check_frames(widths, left, message[at:], altered[first:], count)
             first, at, form = first + frame_count, at + sum(widths), left["state"]
+
+    def some_choices(self):
+        """(A state, choices for some frames): the channel off, or on and off by a choice at each frame."""
+        draw = self.draw
+        if draw.below(2):
+            return a_state(draw), [0] * draw.between(1, 12)
+        state = cases_frames.at_places(draw, draw.between(54, 64) % 64, a_sequence_place(draw))
+        return state, cases_frames.some_choices(draw, draw.between(1, 16))
+
+    def distrusted(self):
+        """What the count of doubtful bits promises, by the codec's own octets, bits, marks and states.
+
+        Each frame that is altered is marked. The receiver begins cold, in any history and sign, or in the
+        sender's with any count up to 24. A good frame's bits past as many as the count before it are as sent.
+        The channel is off, or on and off by a choice at each frame.
+        """
+        draw, law, drn = self.draw, self.draw.below(2), self.draw.between(1, 28)
+        rec, (start, choices), cold = a_record(draw, drn), self.some_choices(), draw.below(2)
+        message, sent = self.sent_in_calls(rec, law, frames.pack_state(start), choices)
+        line = [sent[n:n + 6] for n in range(0, len(sent), 6)]
+        altered = [drn < 28 and draw.below(3) == 0 for _ in line]  # at drn 28 every frame is good
+        line = [self.marked_instead(rec, law, frame) if hurt else frame for frame, hurt in zip(line, altered)]
+        count = 24 if cold else draw.between(0, 24)
+        other = with_places(draw, a_state(draw))._replace(frame_place=start.frame_place)
+        form = frames.pack_state((other if cold else start)._replace(doubtful=count))
+        self.read_in_calls(rec, law, form, line, choices, message, altered)
         self.promised["runs"] += 1
+
+    def opened(self):
+        """CP and E_s go before the data: by the codec's own bytes all bits are as sent, from the first on.
+
+        The sender begins in any state, sends one CP or two and goes on in the state left. The receiver finds its
+        state from the last 24 octets, with any others before them or none, from any history and sign.
+        """
+        draw, law, rec = self.draw, self.draw.below(2), a_record(self.draw, self.draw.between(1, 28))
+        begin, choices = self.some_choices()
+        line, form = b"", frames.pack_state(begin)
+        for _ in range(draw.between(1, 2)):
+            sent_rec = self.any_record()
+            needed = starts.octet_count(sent_rec)
+            octets = self.some(needed + draw.below(3))
+            answer, left = self.call("send_cp", record.pack(sent_rec), law, octets, form)
+            self.expect(answer == needed, "CP is declined")
+            self.expect(left["state"][DOUBTFUL:] == form[DOUBTFUL:], "CP changes more than history and sign")
+            line, form = line + left["octets"][:answer], left["state"]
+            self.openings["CPs"] += 1
+        other = with_places(draw, a_state(draw))._replace(frame_place=begin.frame_place, doubtful=0)
+        line = draw.pick((line, line[-24:], draw.octets(draw.below(500)) + line[-24:]))
+        answer, found = self.call("find_state", line, frames.pack_state(other))
+        self.expect(answer == 0 and found["state"][:DOUBTFUL] == form[:DOUBTFUL], "another state is found")
+        message, sent = self.sent_in_calls(rec, law, form, choices)
+        line = [sent[n:n + 6] for n in range(0, len(sent), 6)]
+        self.read_in_calls(rec, law, found["state"], line, choices, message, [False] * len(line))
+        self.openings["runs"] += 1
+        self.openings["bits as sent"] += len(message)
+
+    def started(self):
+        """CP and E_s from any state, one after another, and the state found from these octets and from any."""
+        draw, law, state = self.draw, self.draw.below(2), a_state(self.draw)
+        self.send_cp(empty_by_own(draw, draw.between(1, 28), [draw.below(6)]), law, state)
+        for _ in range(3):
+            octets, state = self.send_cp(self.any_record(), law, state)
+            heard = octets[-draw.pick((23, 24, 25, 1000)):] if octets else draw.octets(draw.below(60))
+            if draw.below(4) == 0:
+                heard = cases_start.signed(draw, law, [draw.below(2) for _ in heard], range(128))
+            self.find_state(heard, cases_frames.faulty_state(draw, {draw.pick((0, 0, 14, 18, 19))}))
 
     def a_length(self, left):
         """The frames of a call of a long run."""
@@ -619,7 +741,7 @@ class Test:
             state = self.receive(rec, law, len(kinds), line, state, draw.below(2))
 
     def refused(self):
-        """The next single refusals and pairs of them, and greater sets for sender and receiver."""
+        """The next single refusals and pairs of them, and greater sets for those that have a state."""
         for _ in range(8):
             entry, numbers = self.sets[self.next_set]
             self.next_set = (self.next_set + 1) % len(self.sets)
@@ -628,6 +750,7 @@ class Test:
         if cases_frames.possible(numbers) and numbers - {15, 17}:
             self.fault(cases_frames.faulty_send(self.draw, numbers))
             self.fault(cases_frames.faulty_receive(self.draw, numbers))
+            self.fault(cases_start.faulty_sending(self.draw, numbers & set(cases_start.NUMBERS)))
 
     def fault(self, case):
         """A case of the reference in which refusals hold."""
@@ -647,6 +770,8 @@ class Test:
             head, state = (forms_lent[0], draw.below(2), draw.pick((0, 1, 2**64 - 1))), forms_lent[1]
             self.call("send", *head, draw.below(2), a_number(draw), *few[:2], state)
             self.call("receive", *head, draw.below(2), *few, state)
+            self.call("send_cp", *head[:2], few[0], state)
+            self.call("find_state", self.some(draw.pick((0, 1, 23, 24, 40))), state)
         for count in range(3):
             channel, state, room = draw.below(2), a_state(draw), draw.below(HEARD_BYTES)
             needed = frames.data_bytes(rec, count, channel, state.frame_place)
@@ -678,7 +803,7 @@ class Test:
                   cases_cp.sparse_readings, cases_cp.sparse_writings,
                   cases_frames.sparse_calls, cases_frames.sparse_faults,
                   cases_frames.counted_frames, cases_frames.each_mark_counted,
-                  cases_frames.counts_alone, cases_frames.count_faults, *CHANNEL_GROUPS)
+                  cases_frames.counts_alone, cases_frames.count_faults, *CHANNEL_GROUPS, *START_GROUPS)
         for case in self.draw.pick(groups)(self.draw):
             if self.draw.below(4) == 0:
                 self.case(case)
@@ -692,12 +817,13 @@ class Test:
                 self.call("read_cp", sequence, cases_cp.length_of(rec), self.cut(self.some(RECORD_BYTES)))
 
     def sparse(self):
-        """Records with empty masks through all four entries."""
+        """Records with empty masks through all five entries."""
         for _ in range(4):
             rec, law, count = a_sparse_record(self.draw), self.draw.below(2), self.count()
             state, form = a_state(self.draw), self.cut(self.some(RECORD_BYTES))
             self.call("write_cp", self.record(rec), self.some(self.length(122)))
             self.call("read_cp", cases_cp.plain(rec), cases_cp.length_of(rec), form)
+            self.send_cp(rec, law, state)
             self.send(rec, law, count, state, self.draw.below(2))
             self.receive(rec, law, count, self.some(6 * min(count, 1025)), state, self.draw.below(2))
 
@@ -753,6 +879,7 @@ class Test:
         """All calls."""
         often = [self.a_run] * 40 + [self.marked] * 6 + [self.refused] * 6 + [self.flipped] * 6
         often += [self.each_count] * 4 + [self.distrusted] * 4
+        often += [self.each_count_of_start] * 3 + [self.opened] * 3 + [self.started] * 2
         rarely = [self.bad_buffers, self.edges, self.sparse, self.listed] * 2 + [self.a_sequence]
         rarely += [self.samples] * 6 + [self.learning] + [self.planning] * 3
         try:
@@ -792,6 +919,9 @@ class Test:
         met = ("runs", "bits wrong", "the last doubtful one wrong")
         print("doubtful bits as promised:", ", ".join(f"{what}: {self.promised[what]}" for what in met))
         lacking += [f"doubtful bits, {what}" for what in met if not self.promised[what]]
+        met = ("runs", "CPs", "bits as sent")
+        print("CP and E_s before the data:", ", ".join(f"{what}: {self.openings[what]}" for what in met))
+        lacking += [f"CP and E_s before the data, {what}" for what in met if not self.openings[what]]
         if lacking and self.made >= ENOUGH:
             print("never came up:", ", ".join(lacking))
             return False

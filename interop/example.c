@@ -1,5 +1,6 @@
 /* Reads a CP, sends 63 one bits in three frames, receives them, and prints what came of it; another receiver begins cold.
-   Then a request to retrain goes through the control channel. Exits with 1 if anything is not as expected. */
+   Then a request to retrain goes through the control channel, and a circuit begins with its CP and E_s. Exits with 1 if
+   anything is not as expected. */
 #include "v91.h"
 
 #include <stdio.h>
@@ -60,6 +61,26 @@ static void control_channel(const uint8_t *record)
                        receiver, sizeof receiver) == V91_PLACE_TOO_LARGE, "a frame place above 63 is taken");
 }
 
+/* From CP through E_s into data: the sender goes on from the state that they left, the receiver from the one that it finds. */
+static void start_from_cp(const uint8_t *record)
+{
+    uint8_t line[V91_START_OCTETS], bits[8] = { 0xff, 0xff, 0xff, 0xff, 0xff, 0xff, 0xff, 0x7f }, octets[6 * FRAMES], received[8];
+    uint8_t sender[V91_STATE_BYTES] = { 0 }, receiver[V91_STATE_BYTES] = { 0 }, marks[FRAMES], heard[V91_HEARD_BYTES];
+    uint32_t count = v91_send_cp(record, V91_RECORD_BYTES, false, line, sizeof line, sender, sizeof sender);
+
+    expect(!V91_REFUSED(count) && count == V91_CP_OCTETS(CP_BITS), "another octet count than that of CP and E_s");
+    expect(v91_find_state(line, count, receiver, sizeof receiver) == 0, "no state is found");
+    print_hex("E_s   ", line + count - 12, 12);
+    print_hex("found ", receiver, V91_STATE_DOUBTFUL);
+    expect(memcmp(sender, receiver, sizeof sender) == 0, "another state is found than the one left");
+    expect(v91_send(record, V91_RECORD_BYTES, false, FRAMES, false, 0, bits, sizeof bits,
+                    octets, sizeof octets, sender, sizeof sender) == 0, "the sender refuses after CP");
+    expect(v91_receive(record, V91_RECORD_BYTES, false, FRAMES, false, octets, sizeof octets, received, sizeof received,
+                       marks, sizeof marks, heard, sizeof heard, receiver, sizeof receiver) == 0, "the receiver refuses after CP");
+    expect(memcmp(received, bits, sizeof bits) == 0, "other bits than those sent after CP");
+    expect(v91_find_state(line, V91_FIND_OCTETS - 1, receiver, sizeof receiver) == V91_INPUT_TOO_SHORT, "23 octets are taken");
+}
+
 int main(void)
 {
     uint8_t record[V91_RECORD_BYTES], again[V91_CP_BYTES];
@@ -116,5 +137,6 @@ int main(void)
     expect(v91_receive(record, sizeof record, false, 0, false, NULL, 0, NULL, 0, NULL, 0, heard, sizeof heard,
                        cold, sizeof cold) == V91_DOUBTFUL_TOO_LARGE, "a count above 24 is taken");
     control_channel(record);
+    start_from_cp(record);
     return 0;
 }

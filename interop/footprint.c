@@ -29,6 +29,8 @@ static void receive(void)
 }
 static void linear(void) { answer = v91_linear(true, octets, sizeof octets, samples, V91_FRAMES_OCTETS); }
 static void send_dil(void) { answer = v91_send_dil(true, octets, sizeof octets); }
+static void send_cp(void) { answer = v91_send_cp(record, sizeof record, true, octets, sizeof octets, state, sizeof state); }
+static void find_state(void) { answer = v91_find_state(octets, V91_START_OCTETS, state, sizeof state); }
 static void plan(void) { answer = v91_plan(42, true, 16, UINT64_MAX, mask_and_sum, sizeof mask_and_sum); }
 
 static size_t used_by(void (*call)(void))
@@ -76,6 +78,8 @@ int main(void)
     show("v91_receive", receive, 0);
     show("v91_linear", linear, 0);
     show("v91_send_dil", send_dil, V91_DIL_OCTETS);
+    show("v91_send_cp", send_cp, V91_START_OCTETS);
+    show("v91_find_state", find_state, 0);
     show("v91_plan", plan, 0);
     return 0;
 }

@@ -23,6 +23,11 @@
  * same choice at each frame and to begin at the same places. A call has 1,024 frames at most, so that at most one
  * sequence starts in it and at most one ends.
  *
+ * A circuit that begins with a CP goes on from it into data: v91_send_cp sends the CP and E_s, one scrambled and
+ * differentially coded bit per octet as the sign of Ucode 66, and leaves the line state in which v91_send begins. The
+ * history and the last sign that it leaves follow from the last 24 octets alone, whatever the state before them, so that
+ * v91_find_state gives the far end the state in which v91_receive begins: every bit is then as sent, from the first.
+ *
  * A flag counts as 1 where its byte is not 0, and is written as 0 or 1.
  *
  * Any arguments are allowed, as long as each pointer leads to as many elements as its length says (with
@@ -54,7 +59,7 @@ extern "C" {
 #endif
 
 /* Raised where a function is added, or a function, a layout or an answer changes. */
-#define V91_VERSION 5
+#define V91_VERSION 6
 
 /* ---- refusals */
 
@@ -85,7 +90,8 @@ enum v91_refusal {
 };
 
 /* Whether an answer is a refusal: it is 1 to 19, 26 to 28, or 25 + (interval << 24). Else it is 0, the bit count
-   of v91_write_cp, which is 294 to 972, or the 1,500 octets of v91_send_dil. */
+   of v91_write_cp, which is 294 to 972, the octet count of v91_send_cp, 306 to 984, or the 1,500 octets of
+   v91_send_dil. */
 #define V91_REFUSED(answer) ((answer) != 0 && ((answer) < 294 || (answer) >= 1u << 24))
 
 /* Of an answer that is a refusal: its number; and with V91_INTERVAL_EMPTY the lowest such interval, 0 to 5. */
@@ -153,6 +159,9 @@ enum v91_heard {
 #define V91_CP_BITS 972                                      /* the longest CP */
 #define V91_CP_BYTES 122
 #define V91_DIL_OCTETS 1500                                  /* the default DIL */
+#define V91_CP_OCTETS(bit_count) ((size_t)(bit_count) + 12)  /* a CP of so many bits and E_s on the line */
+#define V91_START_OCTETS 984                                 /* the longest CP and E_s */
+#define V91_FIND_OCTETS 24                                   /* the octets from which a line state is found */
 
 /* ---- functions */
 
@@ -189,6 +198,18 @@ uint32_t v91_linear(bool a_law, const uint8_t *octets, size_t octets_len,
 
 /* Writes the default DIL of V.91 Table 5, the whole sequence once. Answers its 1,500 octets, or 17. */
 uint32_t v91_send_dil(bool a_law, uint8_t *octets, size_t octets_len);
+
+/* Sends the record's CP and E_s, twelve zero bits, from the line state on, an octet for each bit. Answers the octet
+   count, which is 306, 438, 576, 714, 846 or 984, or a refusal: 16 for a short record or state, 4, 9, 10, 25, 11, 12,
+   14, 18, 19, 17; a record with drn 0 is sent. After a count the state is the one left: its history and last sign are
+   written, its other bytes stay. */
+uint32_t v91_send_cp(const uint8_t *record, size_t record_len, bool a_law, uint8_t *octets, size_t octets_len,
+                     uint8_t *state, size_t state_len);
+
+/* Finds the line state that a CP and E_s left from the last 24 of the octets, in either law, and writes its history
+   and last sign into the state, whatever these were; its other bytes stay. Answers 0, or 16 where the state is short
+   or there are fewer than 24 octets. */
+uint32_t v91_find_state(const uint8_t *octets, size_t octets_len, uint8_t *state, size_t state_len);
 
 /* Finds one mask for all six intervals with M points, M the least number with M^6 at least 2^K. Neighbouring
    linear values differ by at least the spacing, twice the smallest is at least the spacing, and of all such masks

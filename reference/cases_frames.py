@@ -121,6 +121,18 @@ def a_length(draw, needed, short):
     return draw.pick((needed - 1, needed - 1, 0)) if short else needed + draw.below(3)
 
 
+def faulty_state(draw, numbers, state=None):
+    """The state, or any where none is given, with those of 14, 18 and 19 that are in `numbers`."""
+    state = a_state(draw) if state is None else state
+    if 14 in numbers:
+        state = state._replace(history=a_history_too_large(draw))
+    if 18 in numbers:
+        state = state._replace(doubtful=a_doubt_too_large(draw))
+    if 19 in numbers:
+        state = a_place_too_large(draw, state)
+    return state
+
+
 def faulty_parts(draw, numbers, state):
     """(Record, state, frames, channel, whether 16 holds, whether 17 holds) of a call at fault.
 
@@ -129,13 +141,7 @@ def faulty_parts(draw, numbers, state):
     """
     exact = numbers in ({15}, {15, 17})
     record = a_record(draw, 1) if exact else faulty_record(draw, numbers)
-    state = a_state(draw) if state is None else state
-    if 14 in numbers:
-        state = state._replace(history=a_history_too_large(draw))
-    if 18 in numbers:
-        state = state._replace(doubtful=a_doubt_too_large(draw))
-    if 19 in numbers:
-        state = a_place_too_large(draw, state)
+    state = faulty_state(draw, numbers, state)
     lacking = 15 in numbers and not exact
     count, channel = a_count(draw, numbers, exact), draw.below(2)
     return record, state, count, channel, lacking or 16 in numbers, lacking or 17 in numbers

@@ -3,6 +3,7 @@
 from cp import length, read_cp, record_in, write_cp
 from frames import FRESH, MOST_DOUBTFUL, frame_bits, receive, send
 from record import EXAMPLE, k_of, mask_of, sizes_of
+from start import FOUND_FROM, find_state, from_zero
 from table1 import MU, octet_of
 
 # The lengths of a CP in bytes, and the bits of each.
@@ -114,14 +115,14 @@ def example_cp():
     return write_cp(EXAMPLE, bytes(37))[2]
 
 
-def reception(octets):
-    """(Data, marks) that the example's receiver makes of three frames."""
-    return receive(EXAMPLE, MU, 3, FRESH, 0, octets, bytes(8), bytes(3))[3:]
+def reception(state, octets):
+    """(Data, marks) that the example's receiver makes of three frames, from a line state."""
+    return receive(EXAMPLE, MU, 3, state, 0, octets, bytes(8), bytes(3))[3:]
 
 
-def line_and_reception(octets):
+def line_and_reception(state, octets):
     """The lines of three frames and of what the receiver makes of them."""
-    data, marks = reception(octets)
+    data, marks = reception(state, octets)
     return [f"  {octets.hex(' ', -6)}",
             "What the receiver makes of them, and the mark of each frame:",
             f"  {data.hex()}",
@@ -135,23 +136,31 @@ def wrong_bits(sent, heard, first, count):
 
 
 def demo_lines():
-    """The lines of `v91 demo`: the example's CP, 63 one bits sent, received, and damaged."""
+    """The lines of `v91 demo`: the example's CP sent, 63 one bits sent, received, and damaged."""
+    start, left = from_zero(EXAMPLE, MU)
+    last = start[-FOUND_FROM:]
+    found = find_state(last, FRESH)[1]
     ones = (2**63 - 1).to_bytes(8, "little")
-    octets = send(EXAMPLE, MU, 3, FRESH, 0, 0, ones, bytes(18))[2]
+    octets = send(EXAMPLE, MU, 3, left, 0, 0, ones, bytes(18))[2]
     damaged = octets[:2] + bytes([octet_of(MU, 1, 127)]) + octets[3:]
     width = frame_bits(EXAMPLE)
     sound = width + MOST_DOUBTFUL
-    wrong = wrong_bits(ones, reception(damaged)[0], width, MOST_DOUBTFUL)
+    wrong = wrong_bits(ones, reception(found, damaged)[0], width, MOST_DOUBTFUL)
     return [
         "A CP sequence, as the far end sends it, in 37 bytes:",
         f"  {example_cp().hex()}",
         "What it says:",
         *description(EXAMPLE),
-        "63 one bits, sent in 3 frames of six PCM octets each, mu-law:",
-        *line_and_reception(octets),
+        f"Its bits and the twelve zero bits of E_s, sent in {len(start)} octets, mu-law; "
+        f"the last {len(last)} of them:",
+        f"  {last.hex(' ', -6)}",
+        f"The line state that the receiver finds from these: history {found.history}, "
+        f"last sign {found.sign}",
+        "63 one bits, sent from there on in 3 frames of six PCM octets each, mu-law:",
+        *line_and_reception(found, octets),
         "all 63 bits as sent",
         "The same, but the third octet comes in as 80 (Ucode 127, which is in no mask):",
-        *line_and_reception(damaged),
+        *line_and_reception(found, damaged),
         "frame 0 is marked: interval 2 is outside its mask; "
         f"its bits, 0 to {width - 1}, are given as zeros",
         f"bits {width} to {sound - 1}, the {MOST_DOUBTFUL} after it, are doubtful: "

@@ -16,6 +16,11 @@ its value, which is the interval for 25 and 0 for all others.
                   -> refusal, state, heard, bits, marks
     04  linear    law, len2 samples lent, octets
                   -> refusal, samples of 4 bytes
+    05  send_cp   record, law, state, len2 octets lent
+                  -> refusal, len2 octet count, state, octets
+    06  find_state
+                  state, octets
+                  -> refusal, state
 
 A buffer of which only the length is given is handed in with the contents `octets_lent`,
 `bits_lent`, `marks_lent` or `samples_lent`. The channel is on where its byte is not 0.
@@ -26,12 +31,13 @@ import cp
 import frames
 import linear
 import record
+import start
 
-READ_CP, WRITE_CP, SEND, RECEIVE, LINEAR = range(5)
+READ_CP, WRITE_CP, SEND, RECEIVE, LINEAR, SEND_CP, FIND_STATE = range(7)
 
 
 def octets_lent(length):
-    """The sender's octet buffer as handed in."""
+    """An octet buffer to be written as handed in."""
     return bytes((7 * i + 3) % 256 for i in range(length))
 
 
@@ -100,6 +106,17 @@ def linear_case(law, octets, room):
     return bytes([LINEAR, law]) + len2(room) + octets
 
 
+def send_cp_case(rec, law, state, room):
+    """A case of send_cp with `room` octets lent."""
+    head = bytes([SEND_CP]) + record.pack(rec) + bytes([law])
+    return head + frames.pack_state(state) + len2(room)
+
+
+def find_state_case(octets, state):
+    """A case of find_state."""
+    return bytes([FIND_STATE]) + frames.pack_state(state) + octets
+
+
 # Cases taken apart and answered
 
 def arguments(case):
@@ -111,6 +128,11 @@ def arguments(case):
         return kind, (record.unpack(form[:105]), form[105:])
     if kind == LINEAR:
         return kind, (form[0], form[3:], samples_lent(number(form[1:3])))
+    if kind == SEND_CP:
+        rec, law, state = record.unpack(form[:105]), form[105], frames.unpack_state(form[106:127])
+        return kind, (rec, law, state, octets_lent(number(form[127:])))
+    if kind == FIND_STATE:
+        return kind, (form[21:], frames.unpack_state(form[:21]))
     rec, law, count = record.unpack(form[:105]), form[105], number(form[106:114])
     head = rec, law, count, frames.unpack_state(form[114:135]), int(form[135] != 0)
     if kind == SEND:
@@ -131,6 +153,10 @@ def outcome(case):
         return frames.send(*args)
     if kind == RECEIVE:
         return frames.receive(*args)
+    if kind == SEND_CP:
+        return start.send_cp(*args)
+    if kind == FIND_STATE:
+        return start.find_state(*args)
     return linear.linear(*args)
 
 
@@ -145,6 +171,10 @@ def held(case):
         return list(frames.send_faults(*args))
     if kind == RECEIVE:
         return list(frames.receive_faults(*args))
+    if kind == SEND_CP:
+        return list(start.cp_faults(*args))
+    if kind == FIND_STATE:
+        return list(start.find_faults(*args))
     return list(linear.faults(*args))
 
 
@@ -158,7 +188,11 @@ def answer(case):
         return head + len2(rest[0]) + rest[1]
     if case[0] == LINEAR:
         return head + b"".join(value.to_bytes(4, "little", signed=True) for value in rest[0])
+    if case[0] == SEND_CP:
+        return head + len2(rest[0]) + frames.pack_state(rest[1]) + rest[2]
     head += frames.pack_state(rest[0])
+    if case[0] == FIND_STATE:
+        return head
     if case[0] == RECEIVE:
         return head + control.pack(rest[1]) + b"".join(rest[2:])
     return head + rest[1]

@@ -310,6 +310,16 @@ def receive_frame(record, law, state, channel, octets):
 
 # The entries
 
+def state_faults(state):
+    """The refusals 14, 18 and 19 that hold for a line state, in this order."""
+    if state.history >= HISTORIES:
+        yield Refusal(14)
+    if state.doubtful > MOST_DOUBTFUL:
+        yield Refusal(18)
+    if state.frame_place >= FRAME_PLACES or state.sequence_place >= SEQUENCE_PLACES:
+        yield Refusal(19)
+
+
 def call_faults(record, frames, state, read, written):
     """The refusals 4, 9, 10, 25, 11 to 14, 18, 19 and 15 to 17 that hold, in this order.
 
@@ -319,12 +329,7 @@ def call_faults(record, frames, state, read, written):
     yield from record_faults(record)
     if frames >= 1 and record.drn == 0:
         yield Refusal(13)
-    if state.history >= HISTORIES:
-        yield Refusal(14)
-    if state.doubtful > MOST_DOUBTFUL:
-        yield Refusal(18)
-    if state.frame_place >= FRAME_PLACES or state.sequence_place >= SEQUENCE_PLACES:
-        yield Refusal(19)
+    yield from state_faults(state)
     if frames > MOST_FRAMES:
         yield Refusal(15)
     if any(lent < needed for lent, needed in read):

@@ -20,11 +20,12 @@ from linear import linear
 from picture import LAW_NAMES, Picture, found_line, svg_lines, text_lines
 from plan import MOST_CEILING, RATES, SPACINGS, largest_spacing, plan, points_wanted
 from record import make
-from table1 import A, MU
+from start import E_S, FOUND_FROM, UCODE, find_state, from_zero, octet_count
+from table1 import A, MU, ucode_of
 
 LAWS = {"mu": MU, "ulaw": MU, "a": A, "alaw": A}
 MOST_RUNS = 20
-VERSION = "v91 5"
+VERSION = "v91 6"
 HELP = ("help", "--help", "-h")
 
 NO_FILE = "there is no such file"
@@ -86,10 +87,11 @@ def is_data(word):
 def check_send_words(words):
     """Stop unless send takes the words that follow LAW."""
     of_channel = ["cleardown", "retrain"] if has_word(words, "control") else []
-    taken = {"exact", "progress", "control", *of_channel}
+    taken = {"exact", "progress", "start", "control", *of_channel}
     if not all(word.lower() in taken or of_channel and is_data(word) for word in words):
-        raise Failed("after LAW send takes the words exact, progress and control alone, and after "
-                     f"control cleardown, retrain and up to {control.DATA_BITS} binary digits")
+        raise Failed("after LAW send takes the words exact, progress, start and control alone, and "
+                     "after control cleardown, retrain and up to "
+                     f"{control.DATA_BITS} binary digits")
 
 
 def data_told(words):
@@ -110,9 +112,9 @@ def bytes_wanted(words):
     for word in words:
         if is_number(word):
             wanted = int(word)
-        elif word.lower() not in ("cold", "control", "progress"):
+        elif word.lower() not in ("cold", "control", "start", "progress"):
             raise Failed("after LAW receive takes BYTES, a number of 1 to 18 digits, "
-                         "and the words cold, control and progress alone")
+                         "and the words cold, control, start and progress alone")
     return wanted
 
 
@@ -133,6 +135,57 @@ def cp_in(files, name):
     return record
 
 
+# CP and E_s
+
+def send_start(call, cp_name, law_name):
+    """`start CPFILE LAW`."""
+    law = law_named(law_name)
+    octets, _ = from_zero(cp_in(call.files, cp_name), law)
+    call.write(octets)
+    of_cp = len(octets) - len(E_S)
+    call.say(f"{counted(len(octets), 'octet')} sent: {of_cp} of CP and {len(E_S)} of E_s")
+
+
+def state_for_sending(record, law, words):
+    """The state in which the sender begins: with the word start the one that CP and E_s leave."""
+    return from_zero(record, law)[1] if has_word(words, "start") else FRESH
+
+
+def are_of_start(law, octets):
+    """Whether octets could be of CP and E_s: all of them have Ucode 66."""
+    return all(ucode_of(law, octet) == UCODE for octet in octets)
+
+
+def found_sentence(count, sound):
+    """What is said of the state found from so many octets of CP and E_s."""
+    of_all = f"the last {FOUND_FROM} of {count} octets of CP and E_s"
+    if sound:
+        return f"line state found from {of_all}"
+    return (f"{of_all} are not all of Ucode {UCODE}, so the first {MOST_DOUBTFUL} bits are "
+            "doubtful")
+
+
+def state_found(call, law, state, octets):
+    """The state that octets of CP and E_s leave, said: where it is doubtful, begun from cold."""
+    sound = are_of_start(law, octets[-FOUND_FROM:])
+    call.say(found_sentence(len(octets), sound))
+    return find_state(octets, state if sound else COLD)[1]
+
+
+def begun(call, record, law, words):
+    """(State in which the receiver begins, octets of frames).
+
+    With the word start the input begins with CP and E_s, and the state is found from them.
+    """
+    state, count = state_told(words), octet_count(record)
+    if not has_word(words, "start"):
+        return state, call.input
+    if len(call.input) < count:
+        raise Failed(f"{counted(len(call.input), 'octet')} received, too few for CP and E_s, "
+                     f"which have {count}")
+    return state_found(call, law, state, call.input[:count]), call.input[count:]
+
+
 # Sending
 
 def frame_count(record, channel, data, exact):
@@ -144,9 +197,9 @@ def frame_count(record, channel, data, exact):
     return count + 1 if filled else count
 
 
-def octets_for(record, law, channel, number, count, data):
-    """The octets of so many frames of data, with zero bits behind it, from the fresh state."""
-    state, frames, at = FRESH, [], 0
+def octets_for(record, law, state, channel, number, count, data):
+    """The octets of so many frames of data, with zero bits behind it, from frame place 0."""
+    frames, at = [], 0
     for _ in range(count):
         width = width_of(record, channel, state)
         bits = get_bits(data, at, width)
@@ -182,7 +235,7 @@ def sent_sentences(record, channel, count, data):
 
 
 def send(call, cp_name, law_name, *options):
-    """`send CPFILE LAW [exact] [progress] [control [cleardown] [retrain] [BITS]]`."""
+    """`send CPFILE LAW [exact] [progress] [start] [control [cleardown] [retrain] [BITS]]`."""
     law = law_named(law_name)
     check_send_words(options)
     record = cp_in(call.files, cp_name)
@@ -190,7 +243,8 @@ def send(call, cp_name, law_name, *options):
     count = frame_count(record, channel, call.input, has_word(options, "exact"))
     if count and record.drn == 0:
         raise Failed(CLEARDOWN)
-    call.write(octets_for(record, law, channel, number, count, call.input))
+    state = state_for_sending(record, law, options)
+    call.write(octets_for(record, law, state, channel, number, count, call.input))
     for sentence in sent_sentences(record, channel, count, call.input):
         call.say(sentence)
 
@@ -335,10 +389,11 @@ def say_reception(call, got, left_over):
 
 
 def receive(call, cp_name, law_name, *options):
-    """`receive CPFILE LAW [BYTES] [cold] [control] [progress]`."""
-    law, wanted, state = law_named(law_name), bytes_wanted(options), state_told(options)
+    """`receive CPFILE LAW [BYTES] [cold] [control] [start] [progress]`."""
+    law, wanted = law_named(law_name), bytes_wanted(options)
     record, channel = cp_in(call.files, cp_name), has_word(options, "control")
-    octets = octets_read(record, channel, call.input, wanted)
+    state, line = begun(call, record, law, options)
+    octets = octets_read(record, channel, line, wanted)
     count, left_over = divmod(len(octets), 6)
     if count and record.drn == 0:
         raise Failed(*summary(reception(record, law, channel, state, b"")), CLEARDOWN)
@@ -483,9 +538,9 @@ def tell_version(call):
 
 
 # Each command with the least and the most words after it.
-COMMANDS = {"cp": (tell_cp, 1, 1), "send": (send, 2, 8), "receive": (receive, 2, 6),
-            "linear": (tell_linear, 1, 2), "dil": (write_dil, 1, 1), "plan": (write_plan, 4, 5),
-            "demo": (demo, 0, 1), "--version": (tell_version, 0, 0)}
+COMMANDS = {"cp": (tell_cp, 1, 1), "send": (send, 2, 9), "receive": (receive, 2, 7),
+            "start": (send_start, 2, 2), "linear": (tell_linear, 1, 2), "dil": (write_dil, 1, 1),
+            "plan": (write_plan, 4, 5), "demo": (demo, 0, 1), "--version": (tell_version, 0, 0)}
 
 
 # The script

@@ -1,4 +1,4 @@
-"""Refusals: document 01, 'When the codec declines', and A.1, A.2, A.8 and A.10 of
+"""Refusals: document 01, 'When the codec declines', and A.1, A.2, A.3, A.8 and A.10 of
 document 02.
 
 A refusal is a number and a value that goes with it: the interval for 25, 0 for all others.

@@ -17,6 +17,7 @@ from xml.etree import ElementTree
 
 import cases_cp
 import cases_frames
+import cases_start
 import control
 import cp
 import describe
@@ -27,6 +28,7 @@ import picture
 import plan
 import program
 import record as records
+import start as starts
 import trial
 import vectors
 from frames import COLD, FRESH, State
@@ -34,7 +36,7 @@ from linear import linear
 from record import EMPTY, EXAMPLE, FULL_MASK, k_of, make, mask_of
 from refusals import ORDER, Refusal, in_order
 from samples import (TWO_EMPTY, Draw, a_number, a_record, a_sequence_place, a_sparse_record,
-                     a_state, with_places)
+                     a_state, faulty_record, with_places)
 from table1 import (A, LINEAR, MU, linear_of, octet_by_rule, octet_of, rows, ucode_of,
                     value_by_rule, value_of)
 
@@ -138,21 +140,22 @@ def examples():
 
 
 def answers_to(record):
-    """The refusals of the reader, the writer, the sender and the receiver for one record."""
+    """The refusals of the reader, the writer, the sender of CP, the sender and the receiver."""
     return [cp.read_cp(cases_cp.plain(record), cases_cp.length_of(record))[0],
             cp.write_cp(record, bytes(122))[0],
+            starts.send_cp(record, MU, FRESH, bytes(984))[0],
             frames.send(record, MU, 0, FRESH, 0, 0, b"", b"")[0],
             frames.receive(record, MU, 0, FRESH, 0, b"", b"", b"")[0]]
 
 
 def example_sizes():
-    """B9 and B10, for the reader, the writer, the sender and the receiver."""
+    """B9 and B10, for the reader, the writer, the sender of CP, the sender and the receiver."""
     lost = FULL_MASK ^ 1 << 77
     for record, wanted in ((make(0, 1, 0, [0, 0, 0, 0, 0, 1], [63, 31]), None),
                            (make(0, 1, 0, [0, 0, 0, 0, 1, 1], [63, 31]), Refusal(11)),
                            (make(0, 28, 0, [0] * 6, [FULL_MASK]), None),
                            (make(0, 28, 0, [0, 0, 1, 0, 0, 0], [FULL_MASK, lost]), Refusal(11))):
-        same(answers_to(record), [wanted] * 4, "B9, B10")
+        same(answers_to(record), [wanted] * 5, "B9, B10")
     draw = Draw(10)
     full = make(0, 28, 0, [0] * 6, [FULL_MASK])
     same(set(received(full, A, FRESH, draw.octets(6 * 500))[0]), {0}, "B10's marks")
@@ -522,7 +525,7 @@ def stored_lines(name):
 def stored_cases():
     """(Case, answer) for all stored cases."""
     both = []
-    for name in ("vectors_cp", "vectors_frames"):
+    for name in ("vectors_cp", "vectors_frames", "vectors_start"):
         cases, answers = stored_lines(f"{name}/stdin"), stored_lines(f"{name}/stdout")
         same(len(cases), len(answers), f"lines of {name}")
         both += zip(cases, answers)
@@ -539,6 +542,11 @@ def stored_answers():
     check(max(map(len, of_cp)) <= 300, "a line of vectors_cp")
     texts = [stored_text(f"vectors_frames/{name}") for name in ("stdin", "stdout")]
     check(sum(map(len, texts)) < 2_000_000, "size of vectors_frames")
+    of_start = [case for case, _ in both if case[0] in (forms.SEND_CP, forms.FIND_STATE)]
+    check(250 <= len(of_start) <= 450, "lines of vectors_start")
+    check(max(map(len, of_start)) <= 1400, "a line of vectors_start")
+    texts = [stored_text(f"vectors_start/{name}") for name in ("stdin", "stdout")]
+    check(sum(map(len, texts)) < 1_500_000, "size of vectors_start")
     check(stored_text("vectors_pcm/stdout").count("\n") == 512, "lines of vectors_pcm")
     check(stored_text("vectors_dil/stdout").count("\n") == 885, "lines of vectors_dil")
     check(stored_text("vectors_plan/stdout").count("\n") == 1088, "lines of vectors_plan")
@@ -556,6 +564,10 @@ def lent_unchanged(case):
         return [args[2]]
     if kind == forms.SEND:
         return [args[3], args[7]]
+    if kind == forms.SEND_CP:
+        return [0, args[2], args[3]]
+    if kind == forms.FIND_STATE:
+        return [args[1]]
     return [args[3], control.NOTHING, *args[6:]]
 
 
@@ -579,7 +591,9 @@ def stored_refusals():
               forms.WRITE_CP: (cases_cp.WRITER_NUMBERS, cases_cp.pairs(cases_cp.WRITER_NUMBERS)),
               forms.SEND: (cases_frames.NUMBERS, cases_frames.pairs()),
               forms.RECEIVE: (cases_frames.NUMBERS, cases_frames.pairs()),
-              forms.LINEAR: ((17,), ())}
+              forms.LINEAR: ((17,), ()),
+              forms.SEND_CP: (cases_start.NUMBERS, cases_frames.pairs(cases_start.NUMBERS)),
+              forms.FIND_STATE: ((16,), ())}
     same(alone, {(kind, number) for kind, (numbers, _) in wanted.items() for number in numbers},
          "refusals alone")
     same(met, {(kind, *pair) for kind, (_, pairs) in wanted.items() for pair in pairs}, "pairs")
@@ -617,7 +631,7 @@ def stored_coverage():
 
 # Empty intervals (A.8)
 
-SPARSE_ENTRIES = (forms.READ_CP, forms.WRITE_CP, forms.SEND, forms.RECEIVE)
+SPARSE_ENTRIES = (forms.READ_CP, forms.WRITE_CP, forms.SEND, forms.RECEIVE, forms.SEND_CP)
 
 
 def lowest_empty(record):
@@ -638,7 +652,7 @@ def drawn_records(count):
         values = [refusal.value for refusal in held if refusal.number == 25]
         same(values, [] if lowest is None else [lowest], f"25 for {record}")
         check(not values or Refusal(11) in held, f"25 without 11 for {record}")
-        same(answers_to(record), [held[0] if held else None] * 4, f"answers to {record}")
+        same(answers_to(record), [held[0] if held else None] * 5, f"answers to {record}")
         told.add(lowest)
     same(told, {None, *range(6)}, "intervals told")
 
@@ -646,7 +660,7 @@ def drawn_records(count):
 def stored_without_25():
     """How many stored answers change where no entry has 25: all become 11, and nothing else."""
     told = []
-    for name in ("cp.record_faults", "frames.record_faults"):
+    for name in ("cp.record_faults", "frames.record_faults", "start.record_faults"):
         with patch(name, without(records.faults, 25)):
             for case, answer in stored_cases():
                 found = forms.answer(case)
@@ -658,9 +672,9 @@ def stored_without_25():
 
 
 def empty_intervals():
-    """25 tells the lowest empty interval, in all four entries, and takes the place of 11 alone."""
-    same(answers_to(TWO_EMPTY), [Refusal(25, 2)] * 4, "intervals 2 and 4 empty")
-    same(answers_to(TWO_EMPTY._replace(drn=0)), [None] * 4, "the same at drn 0")
+    """25 tells the lowest empty interval, in all five entries, and takes the place of 11 alone."""
+    same(answers_to(TWO_EMPTY), [Refusal(25, 2)] * 5, "intervals 2 and 4 empty")
+    same(answers_to(TWO_EMPTY._replace(drn=0)), [None] * 5, "the same at drn 0")
     drawn_records(4000)
     both = stored_cases()
     for case, _ in both:
@@ -983,6 +997,217 @@ def stored_channel():
     check(set(product(range(16), (0, 1), (True, False))) <= steps_met, "lost frames")
     check({(kind, 1024, 16) for kind in both} <= lengths, "calls of 1,024 frames")
     return f"{len(places)} places, {len(declined)} kinds of 19, {len(steps_met)} of lost frames"
+
+
+# CP and E_s (A.3)
+
+def opening(record, law, state, lent):
+    """(Octets, state left) of a call of send_cp that is not declined; what lies beyond stays."""
+    refusal, count, after, octets = starts.send_cp(record, law, state, lent)
+    same((refusal, len(octets)), (None, len(lent)), "refusal of send_cp")
+    same(octets[count:], lent[count:], "octets beyond")
+    return octets[:count], after
+
+
+def found_from(octets, state):
+    """The state found, in a call that is not declined."""
+    refusal, after = starts.find_state(octets, state)
+    same(refusal, None, "refusal of find_state")
+    return after
+
+
+def line_of(state, octets):
+    """Scrambled bits, the first in time first: the 23 of a state, then those of octets."""
+    signs = [state.sign, *(octet >> 7 for octet in octets)]
+    before = [state.history >> n & 1 for n in range(22, -1, -1)]
+    return before + [sign ^ last for last, sign in zip(signs, signs[1:])]
+
+
+def start_values():
+    """CP and E_s of the example: the first octets by hand, the last ones, and the state left.
+
+    The scrambled bits 0 to 16 are 1, for the sync is; those of bits 17 to 23 are 0 1 0 0 1 1 0.
+    """
+    octets, left = opening(EXAMPLE, MU, FRESH, bytes(306))
+    same(octets[:24].hex(), "bd3d" * 8 + "bdbd3d3d3dbd3d3d", "the first octets")
+    same(opening(EXAMPLE, A, FRESH, bytes(306))[0][:4].hex(), "97179717", "those of A-law")
+    same(octets[-24:].hex(" ", -6), "3dbd3dbdbdbd 3d3dbdbdbdbd 3dbd3dbdbd3d 3d3dbdbdbd3d",
+         "the last octets")
+    same((left, found_from(octets, FRESH)), (State(0b11100101000111101001001, 0, 0),) * 2,
+         "the state left and found")
+    same(found_from(bytes(23) + b"\x80", COLD), State(1, 1, 24), "the latest bit alone")
+    same(found_from(b"\x80" + bytes(23), State(5, 1, 3, 9, 2, 7, 1)),
+         State(2**22, 0, 3, 9, 2, 7, 1), "the oldest bit alone")
+    same(found_from(b"\x00" + b"\xff" * 24, FRESH), State(0, 1, 0), "no change of sign")
+    same([starts.octet_count(make(0, 0, 0, [g] * 6, [])) for g in range(6)],
+         [306, 438, 576, 714, 846, 984], "lengths")
+    return "octets, states, lengths"
+
+
+def start_undone():
+    """Signs undone and descrambled give the CP back and twelve zeros, from any state."""
+    draw = Draw(18)
+    for n in range(600):
+        record, law = a_record(draw, n % 29, granted=n % 29 == 28 and draw.below(2)), draw.below(2)
+        state, count = draw.pick((FRESH, a_state(draw))), cases_cp.length_of(record)
+        octets, left = opening(record, law, state, draw.octets(count + 12 + draw.below(4)))
+        same(len(octets), count + 12, "octets of CP and E_s")
+        same({ucode_of(law, octet) for octet in octets}, {66}, "Ucodes")
+        line = line_of(state, octets)
+        bits = [line[at] ^ line[at - 18] ^ line[at - 23] for at in range(23, len(line))]
+        same(bits[count:], [0] * 12, "E_s")
+        sequence = as_number(bits[:count]).to_bytes((count + 7) // 8, "little")
+        same(sequence, cases_cp.plain(record), "CP")
+        same(cp.read_cp(sequence, count), (None, record), "the record")
+        same(left, state._replace(history=as_number(line[:-24:-1]), sign=octets[-1] >> 7),
+             "the state left")
+    return "600 records"
+
+
+def start_found():
+    """The state left is the one found; the signs of the last 24 octets alone decide it."""
+    draw = Draw(19)
+    for n in range(300):
+        record, law = a_record(draw, n % 29), draw.below(2)
+        state, other = draw.pick((FRESH, a_state(draw))), a_state(draw)
+        octets, left = opening(record, law, state, bytes(984))
+        same(found_from(octets, state), left, "the state found")
+        wanted = other._replace(history=left.history, sign=left.sign)
+        same(found_from(octets, other), wanted, "the state found from another")
+        before = draw.octets(draw.pick((0, 1, 300, draw.below(50))))
+        signs = bytes(octet & 0x80 | draw.below(128) for octet in octets[-24:])
+        same(found_from(before + signs, other), wanted, "the state found from the signs")
+        beyond = cases_frames.faulty_state(draw, {14, 18, 19}, other)
+        same(found_from(octets, beyond),
+             beyond._replace(history=left.history, sign=left.sign), "a state out of bounds")
+        place = draw.below(24)
+        turned = signs[:place] + bytes([signs[place] ^ 0x80]) + signs[place + 1:]
+        check(found_from(turned, other)[:2] != wanted[:2], "a sign that does not matter")
+    states = {found_from(bytes(0x80 * (n >> i & 1) for i in range(24)), FRESH)[:2]
+              for n in range(0, 2**24, 997)}
+    same(len(states), len(range(0, 2**24, 997)), "a state for each 24 signs")
+    return "300 records, 16829 lots of 24 signs"
+
+
+def carried(draw, octets, state):
+    """The state found where any octets or none come before the last 24 of CP and E_s.
+
+    It is found from a state of any history and sign with the same frame and sequence place.
+    """
+    before = draw.pick((octets[:-24], b"", draw.octets(draw.below(400))))
+    return found_from(before + octets[-24:], elsewhere(draw, state)._replace(doubtful=0))
+
+
+def start_to_data():
+    """A receiver that begins in the state found hands over all bits as sent, from the first on.
+
+    The sender goes on from the state that CP and E_s leave, one CP after another at times.
+    """
+    draw, amiss = Draw(20), 0
+    for n in range(400):
+        record, law, (state, choices) = a_record(draw, 1 + n % 28), draw.below(2), a_start(draw)
+        octets = b""
+        for _ in range(draw.between(1, 2)):
+            sent_now, state = opening(a_record(draw, draw.below(29)), law, state, bytes(984))
+            octets += sent_now
+        message, line = sender_list(draw, record, law, state, choices)
+        begin = carried(draw, octets, state)
+        same(begin[:2], state[:2], "history and sign at both ends")
+        handed, marks, counts = receiver_list(draw, record, law, begin, line, choices)
+        same((handed, set(marks)), (message, {0}), "bits and marks")
+        same(set(counts.values()), {0}, "counts")
+        fresh = FRESH._replace(frame_place=state.frame_place, sequence_place=state.sequence_place)
+        amiss += receiver_list(draw, record, law, fresh, line, choices)[0] != message
+    check(amiss > 380, "a receiver that begins fresh has all bits right")
+    return f"400 runs, {amiss} of them amiss from the zero state"
+
+
+def start_refusals():
+    """send_cp declines as the writer, then with 14, 18, 19 and 17; find_state with 16 alone."""
+    draw = Draw(21)
+    for _ in range(400):
+        faulty = faulty_record(draw, {draw.pick((4, 9, 10, 25, 11, 12))})
+        record = draw.pick((faulty, a_sparse_record(draw), a_record(draw, 0)))
+        wanted = cp.write_cp(record, bytes(5000))[0]
+        same(starts.send_cp(record, draw.below(2), FRESH, bytes(40000))[0], wanted, "as the writer")
+        faults = [number for number in (14, 18, 19, 17) if draw.below(2)]
+        state = cases_frames.faulty_state(draw, faults)
+        needed = starts.octet_count(record)
+        lent = draw.octets(min(draw.below(needed), 2000) if 17 in faults else needed)
+        refusal, *left = starts.send_cp(record, draw.below(2), state, lent)
+        first = wanted or next(map(Refusal, faults), None)
+        same(refusal, first, f"with {faults}")
+        check(not refusal or left == [0, state, lent], "what a refusal leaves")
+        count = draw.below(48)
+        refusal, after = starts.find_state(draw.octets(count), state)
+        same(refusal, Refusal(16) if count < 24 else None, f"find_state with {count} octets")
+        same(after if refusal else after[2:], state if refusal else state[2:], "fields that stay")
+    return "400 records and states"
+
+
+def sent_in_stored():
+    """Lengths, laws, states, records and buffers that the stored cases of send_cp must have."""
+    lengths, rates, fields, rooms = set(), set(), set(), set()
+    for case, answer in stored_cases():
+        kind, args = forms.arguments(case)
+        if kind != forms.SEND_CP or answer[0] not in (0, 17):
+            continue
+        record, law, state, lent = args
+        g = max(record.indices)
+        rooms.add((g, len(lent) - starts.octet_count(record) if lent else "none"))
+        if not answer[0]:
+            lengths.add((g, law, state == FRESH))
+            rates.add((record.drn, record.acknowledge))
+            fields |= set(zip(state._fields, state))
+    check(set(product(range(6), (MU, A), (True, False))) <= lengths, "lengths, laws and states")
+    same({drn for drn, _ in rates}, set(range(29)), "rates")
+    check({(0, 1), (1, 1), (28, 0)} <= rates, "acknowledge")
+    check({("history", n) for n in (0, 2**23 - 1, *(1 << bit for bit in range(23)))}
+          | {("sign", n) for n in (0, 1)} | {("doubtful", n) for n in range(25)}
+          | {("frame_place", n) for n in (0, 63)} | {("sequence_place", n) for n in (0, 15)}
+          | {("lost", n) for n in (0, 1)} <= fields, "states")
+    check(set(product(range(6), (-12, -1, 0, 1, 24, "none"))) <= rooms, "buffers")
+
+
+def found_in_stored():
+    """Octets and states that the stored cases of find_state must have."""
+    lengths, bits, beyond, ucodes, handed_on = set(), set(), set(), set(), 0
+    written = set()
+    for case, answer in stored_cases():
+        if case[0] == forms.SEND_CP and not answer[0]:
+            _, count, _, octets = forms.outcome(case)
+            written.add(octets[count - 24:count])
+    for case, answer in stored_cases():
+        kind, args = forms.arguments(case)
+        if kind != forms.FIND_STATE:
+            continue
+        octets, state = args
+        lengths.add(min(len(octets), 60))
+        beyond.add((answer[0], *(refusal.number for refusal in frames.state_faults(state))))
+        handed_on += octets[-24:] in written
+        if not answer[0]:
+            after = forms.outcome(case)[1]
+            bits.add((after.history, after.sign))
+            ucodes |= {(law, {ucode_of(law, octet) for octet in octets[-24:]} == {66})
+                       for law in (MU, A)}
+    check({0, 1, 2, 22, 23, 24, 25, 26, 48, 60} <= lengths, "octets lent")
+    check(set(product((0, *(1 << n for n in range(23))), (0, 1))) <= bits, "each bit alone")
+    faults = [(), (14,), (18,), (19,), (14, 18), (14, 19), (18, 19), (14, 18, 19)]
+    check({(number, *some) for number in (0, 16) for some in faults} <= beyond, "states")
+    same(ucodes, set(product((MU, A), (True, False))), "octets of Ucode 66 and others")
+    check(handed_on >= 10, "octets that send_cp wrote")
+
+
+def stored_starts():
+    """What the stored cases of send_cp and find_state must have."""
+    sent_in_stored()
+    found_in_stored()
+    chain = [forms.arguments(case)[1][2] for case, _ in stored_cases() if case[0] == forms.SEND_CP]
+    left = [forms.outcome(case)[2] for case, answer in stored_cases()
+            if case[0] == forms.SEND_CP and not answer[0]]
+    after = sum(state in left and state != FRESH for state in chain)
+    check(after >= 10, "CP after CP")
+    return f"{len(chain)} of send_cp, {after} of them after another CP"
 
 
 # The default DIL (A.12)
@@ -1544,8 +1769,8 @@ def other_value(value):
 
 
 def of_all_entries(faults):
-    """The changes that give all four entries this list of the record's refusals."""
-    return {"cp.record_faults": faults, "frames.record_faults": faults}
+    """The changes that give all five entries this list of the record's refusals."""
+    return {f"{name}.record_faults": faults for name in ("cp", "frames", "start")}
 
 
 def empty_without(rate):
@@ -2407,6 +2632,389 @@ WRONG_CHANNELS = {
 }
 
 
+# Wrong codecs of CP and E_s
+
+RIGHT_START = {name: getattr(starts, name)
+               for name in ("cp_bits", "cp_faults", "find_faults", "find_state", "history_of",
+                            "last_signs", "octet_count", "scrambled_bits", "send_bit", "send_bits",
+                            "send_cp")}
+ES_BITS = len(starts.E_S)
+
+
+def begun_with(**fields):
+    """The changes that let CP begin with other fields of the line state; the others are right."""
+    return {"start.send_bits": lambda law, state, bits: RIGHT_START["send_bits"](
+        law, state._replace(**fields), bits)}
+
+
+def before_es(change):
+    """The changes that give E_s a line state made from the one that CP leaves."""
+    def send_bits(law, state, bits):
+        octets, state = RIGHT_START["send_bits"](law, state, bits[:-ES_BITS])
+        more, after = RIGHT_START["send_bits"](law, change(state), bits[-ES_BITS:])
+        return octets + more, after
+    return {"start.send_bits": send_bits}
+
+
+def bits_sent_by(change):
+    """The changes that send other bits, made from those of CP and E_s."""
+    return {"start.send_bits": lambda law, state, bits: RIGHT_START["send_bits"](
+        law, state, change(bits))}
+
+
+def each_bit_by(coded):
+    """The changes that code a bit otherwise; `coded` makes history and sign of state and bit."""
+    def send_bit(law, state, bit):
+        history, sign = coded(state, bit)
+        return octet_of(law, sign, starts.UCODE), state._replace(history=history, sign=sign)
+    return {"start.send_bit": send_bit}
+
+
+def not_differential(state, bit):
+    """A scrambled bit is the sign itself."""
+    scrambled = bit ^ frames.taps(state.history)
+    return frames.push(state.history, scrambled), scrambled
+
+
+def data_in_history(state, bit):
+    """The history takes the bits before the scrambler."""
+    return frames.push(state.history, bit), bit ^ frames.taps(state.history) ^ state.sign
+
+
+def signs_in_history(state, bit):
+    """The history takes the signs."""
+    sign = bit ^ frames.taps(state.history) ^ state.sign
+    return frames.push(state.history, sign), sign
+
+
+def coded_first(state, bit):
+    """A bit is differentially coded before the scrambler, which makes the sign."""
+    scrambled = bit ^ state.sign ^ frames.taps(state.history)
+    return frames.push(state.history, scrambled), scrambled
+
+
+def octets_by(change):
+    """The changes that make octets of other law, sign and Ucode."""
+    return {"start.octet_of": lambda law, sign, ucode: octet_of(*change(law, sign, ucode))}
+
+
+def answered(change):
+    """The changes that make another answer of send_cp from the right one and what is handed in."""
+    def send_cp(record, law, state, octets):
+        found = RIGHT_START["send_cp"](record, law, state, octets)
+        return change(found, record, law, state, octets)
+    return {"start.send_cp": send_cp}
+
+
+def left_by_start(**fields):
+    """The changes that let an accepted call of send_cp leave other fields."""
+    return answered(lambda found, *given: found if found[0] else
+                    (*found[:2], found[2]._replace(**fields), found[3]))
+
+
+def refused_by_start(change):
+    """The changes that make another answer where send_cp declines."""
+    return answered(lambda found, *given: change(found, *given) if found[0] else found)
+
+
+def as_if_sent(found, record, law, state, octets):
+    """What send_cp leaves in the state where nothing is declined, and the octets as they were."""
+    bits = RIGHT_START["cp_bits"](EXAMPLE) + list(starts.E_S)
+    return found[0], 0, RIGHT_START["send_bits"](law, state._replace(
+        history=state.history % frames.HISTORIES), bits)[1], octets
+
+
+def written_all_the_same(found, record, law, state, octets):
+    """A call that is refused with 17 writes what there is room for."""
+    if found[0].number != 17:
+        return found
+    made = RIGHT_START["send_bits"](law, state, RIGHT_START["cp_bits"](record))[0][:len(octets)]
+    return (*found[:3], made + octets[len(made):])
+
+
+def one_short(record, law, state, octets):
+    """A buffer one octet too short is accepted, and the last octet is lost."""
+    if len(octets) != starts.octet_count(record) - 1:
+        return RIGHT_START["send_cp"](record, law, state, octets)
+    *found, made = RIGHT_START["send_cp"](record, law, state, octets + bytes(1))
+    return *found, made[:len(octets)]
+
+
+def beyond_start(change):
+    """The changes that make other octets of those beyond CP and E_s."""
+    return answered(lambda found, record, law, state, octets: found if found[0] else
+                    (*found[:3], found[3][:found[1]] + change(law, octets[found[1]:])))
+
+
+def declined_by_start(number, condition):
+    """The changes that let send_cp have a refusal by another rule, made from record and state."""
+    def cp_faults(record, law, state, octets):
+        held = list(without(RIGHT_START["cp_faults"], number)(record, law, state, octets))
+        held += [Refusal(number)] * bool(condition(record, state))
+        return iter(sorted(held, key=lambda fault: ORDER.index(fault.number)))
+    return {"start.cp_faults": cp_faults}
+
+
+def told_by_start(number, other):
+    """The changes that give a refusal of send_cp another number."""
+    return {"start.cp_faults": lambda *args: (Refusal(other) if fault.number == number else fault
+                                              for fault in RIGHT_START["cp_faults"](*args))}
+
+
+def last_of_start(number):
+    """The changes that let send_cp look at a refusal last."""
+    return {"start.cp_faults": lambda *args: iter(sorted(
+        RIGHT_START["cp_faults"](*args), key=lambda fault: fault.number == number))}
+
+
+def moved_of_start(number, moved):
+    """The changes that let send_cp look at a refusal just before another."""
+    return {"start.cp_faults": moved_before(number, RIGHT_START["cp_faults"], moved)}
+
+
+def without_of_start(number):
+    """The changes that let send_cp forget a refusal."""
+    return {"start.cp_faults": without(RIGHT_START["cp_faults"], number)}
+
+
+def needing(change):
+    """The changes that let send_cp ask for another number of octets, made from the right one."""
+    def cp_faults(record, law, state, octets):
+        yield from without(RIGHT_START["cp_faults"], 17)(record, law, state, octets)
+        if len(octets) < change(starts.octet_count(record)):
+            yield Refusal(17)
+    def send_cp(record, law, state, octets):
+        refusal = next(cp_faults(record, law, state, octets), None)
+        if refusal:
+            return refusal, 0, state, octets
+        *found, made = RIGHT_START["send_cp"](record, law, state, octets + bytes(984))
+        return *found, made[:len(octets)]
+    return {"start.cp_faults": cp_faults, "start.send_cp": send_cp}
+
+
+def found_by(change):
+    """The changes that make another state of the one found and what is handed in."""
+    def find_state(octets, state):
+        refusal, after = RIGHT_START["find_state"](octets, state)
+        return refusal, after if refusal else after._replace(**change(octets, state, after))
+    return {"start.find_state": find_state}
+
+
+def finding_refused(change):
+    """The changes that make other refusals of find_state, from those that hold."""
+    return {"start.find_faults": lambda octets, state: iter(change(
+        list(RIGHT_START["find_faults"](octets, state)), octets, state))}
+
+
+def found_at_all(octets, state):
+    """Fewer than 24 octets are taken for what they are."""
+    signs = starts.last_signs(octets)
+    history = starts.history_of(starts.scrambled_bits(signs))
+    return None, state._replace(history=history, sign=signs[-1] if signs else 0)
+
+
+def against(sign):
+    """The changes that take the first of the last 23 octets against a sign, made from the state."""
+    def change(octets, state, after):
+        signs = [sign(state), *(octet >> 7 for octet in octets[-23:])]
+        return dict(history=starts.history_of(starts.scrambled_bits(signs)))
+    return found_by(change)
+
+
+def descrambled_history(octets, state, after):
+    """The bits of a history are those behind the descrambler."""
+    return dict(history=frames.descramble(0, mirrored_in(23, after.history), 23)[0])
+
+
+WRONG_STARTS = {
+    "E_s of eleven bits": {"start.E_S": (0,) * 11},
+    "E_s of thirteen bits": {"start.E_S": (0,) * 13},
+    "E_s of ones": {"start.E_S": (1,) * 12},
+    "E_s not sent": {"start.E_S": ()},
+    "E_s before CP": bits_sent_by(lambda bits: bits[-ES_BITS:] + bits[:-ES_BITS]),
+    "CP sent twice": bits_sent_by(lambda bits: bits[:-ES_BITS] + bits),
+    "CP not scrambled": {"start.taps": lambda history: 0},
+    "CP scrambled from its own bits": each_bit_by(data_in_history),
+    "CP scrambled from the signs": each_bit_by(signs_in_history),
+    "CP not differentially coded": each_bit_by(not_differential),
+    "CP differentially coded before the scrambler": each_bit_by(coded_first),
+    "CP with taps 17 and 23": {"start.taps": lambda history: (history >> 16 ^ history >> 22) & 1},
+    "CP with taps 5 and 23": {"start.taps": lambda history: (history >> 4 ^ history >> 22) & 1},
+    "CP as Ucode 65": {"start.UCODE": 65},
+    "CP as Ucode 67": {"start.UCODE": 67},
+    "CP in the other law": octets_by(lambda law, sign, ucode: (1 - law, sign, ucode)),
+    "CP in mu-law alone": octets_by(lambda law, sign, ucode: (MU, sign, ucode)),
+    "CP with signs inverted": octets_by(lambda law, sign, ucode: (law, 1 - sign, ucode)),
+    "sign reset before E_s": before_es(lambda state: state._replace(sign=0)),
+    "history reset before E_s": before_es(lambda state: state._replace(history=0)),
+    "E_s not scrambled": before_es(lambda state: FRESH._replace(sign=state.sign)),
+    "sign reset before CP": begun_with(sign=0),
+    "history reset before CP": begun_with(history=0),
+    "history and sign reset before CP": begun_with(history=0, sign=0),
+    "history of CP from ones": begun_with(history=2**23 - 1),
+    "fill bits not sent": {"start.length": cp.end_of_crc},
+    "padding of the last byte sent": {"start.length": lambda g: (cp.length(g) + 7) // 8 * 8},
+    "CP of one mask alone": {"start.length": lambda g: cp.length(0)},
+    "sync not sent": bits_sent_by(lambda bits: bits[17:]),
+    "start bits not sent": bits_sent_by(lambda bits: [
+        bit for n, bit in enumerate(bits) if n % 17 or not 0 < n < len(bits) - ES_BITS - 21]),
+    "CP from its last bit": {"start.cp_bits": lambda record: RIGHT_START["cp_bits"](record)[::-1]},
+    "CP from the top of each byte": {"start.cp_bits": lambda record: [
+        (RIGHT_START["cp_bits"](record) + [0] * 7)[n ^ 7]
+        for n in range(cases_cp.length_of(record))]},
+    "CP without its CRC": {"start.bits_of": lambda record: cp.bits_of(record)
+                           % 2 ** (273 + 136 * max(record.indices))},
+    "acknowledge set in CP": {"start.bits_of": lambda record: cp.bits_of(
+        record._replace(acknowledge=1))},
+    "count cleared by CP": left_by_start(doubtful=0),
+    "count 24 after CP": left_by_start(doubtful=24),
+    "places cleared by CP": left_by_start(frame_place=0, sequence_place=0),
+    "frame place cleared by CP": left_by_start(frame_place=0),
+    "sequence place cleared by CP": left_by_start(sequence_place=0),
+    "sequence cleared by CP": left_by_start(sequence=0),
+    "lost cleared by CP": left_by_start(lost=0),
+    "frames of CP counted": answered(lambda found, record, law, state, octets: found if found[0]
+                                     else (*found[:2], found[2]._replace(
+                                         frame_place=(state.frame_place + found[1] // 6) % 64),
+                                         found[3])),
+    "history not left by CP": answered(lambda found, record, law, state, octets: found if found[0]
+                                       else (*found[:2], found[2]._replace(history=state.history),
+                                             found[3])),
+    "sign not left by CP": answered(lambda found, record, law, state, octets: found if found[0]
+                                    else (*found[:2], found[2]._replace(sign=state.sign),
+                                          found[3])),
+    "zero state left by CP": left_by_start(history=0, sign=0),
+    "bits of CP told": answered(lambda found, *given: found if found[0] else
+                                (None, found[1] - ES_BITS, *found[2:])),
+    "octets lent told": answered(lambda found, record, law, state, octets: found if found[0] else
+                                 (None, len(octets), *found[2:])),
+    "octets told by a refusal": refused_by_start(lambda found, record, law, state, octets:
+                                                 (found[0], starts.octet_count(record) % 2**16,
+                                                  *found[2:])),
+    "state zeroed by a refused CP": refused_by_start(
+        lambda found, *given: (*found[:2], FRESH, found[3])),
+    "state moved on by a refused CP": refused_by_start(as_if_sent),
+    "count zeroed by a refused CP": refused_by_start(
+        lambda found, *given: (*found[:2], found[2]._replace(doubtful=0), found[3])),
+    "CP refused and written": refused_by_start(written_all_the_same),
+    "CP in a buffer one too short": {"start.cp_faults": lambda record, law, state, octets:
+                                     RIGHT_START["cp_faults"](record, law, state,
+                                                              octets + bytes(1)),
+                                     "start.send_cp": one_short},
+    "CP in a buffer of its bits": needing(lambda count: count - ES_BITS),
+    "CP in a buffer of its bytes": needing(lambda count: (count - ES_BITS + 7) // 8),
+    "CP refused where it just fits": needing(lambda count: count + 1),
+    "CP always asks for 984 octets": needing(lambda count: max(count, 984)),
+    "octets beyond CP cleared": beyond_start(lambda law, rest: bytes(len(rest))),
+    "octets beyond CP of Ucode 66": beyond_start(
+        lambda law, rest: bytes([octet_of(law, 1, 66)]) * len(rest)),
+    "one octet beyond CP written": beyond_start(
+        lambda law, rest: bytes([octet_of(law, 1, 66)])[:len(rest)] + rest[1:]),
+    "CP at cleardown refused with 13": declined_by_start(13, lambda record, state:
+                                                         record.drn == 0),
+    "CP refused with 16": {"start.Refusal": lambda number: Refusal(16)},
+    "12 forgotten with CP": without_of_start(12),
+    "14 forgotten with CP": without_of_start(14),
+    "18 forgotten with CP": without_of_start(18),
+    "19 forgotten with CP": without_of_start(19),
+    "25 forgotten with CP": without_of_start(25),
+    "25 after 11 with CP": moved_of_start(12, 25),
+    "25 before 10 with CP": moved_of_start(10, 25),
+    "14 before 4 with CP": moved_of_start(4, 14),
+    "14 before 12 with CP": moved_of_start(12, 14),
+    "18 before 12 with CP": moved_of_start(12, 18),
+    "18 before 14 with CP": moved_of_start(14, 18),
+    "19 before 12 with CP": moved_of_start(12, 19),
+    "19 before 14 with CP": moved_of_start(14, 19),
+    "19 before 18 with CP": moved_of_start(18, 19),
+    "17 before 4 with CP": moved_of_start(4, 17),
+    "17 before 12 with CP": moved_of_start(12, 17),
+    "17 before 14 with CP": moved_of_start(14, 17),
+    "17 before 18 with CP": moved_of_start(18, 17),
+    "17 before 19 with CP": moved_of_start(19, 17),
+    "14 after 17 with CP": last_of_start(14),
+    "12 after 17 with CP": last_of_start(12),
+    "14 from 2^23 - 1 on with CP": declined_by_start(14, lambda record, state:
+                                                     state.history >= 2**23 - 1),
+    "14 from 2^23 + 1 on with CP": declined_by_start(14, lambda record, state:
+                                                     state.history > 2**23),
+    "14 by 24 bits with CP": declined_by_start(14, lambda record, state:
+                                               state.history >> 23 & 1),
+    "18 from 24 on with CP": declined_by_start(18, lambda record, state: state.doubtful > 23),
+    "18 from 26 on with CP": declined_by_start(18, lambda record, state: state.doubtful > 25),
+    "18 of a byte with a sign with CP": declined_by_start(18, lambda record, state:
+                                                          24 < state.doubtful < 128),
+    "18 for any count with CP": declined_by_start(18, lambda record, state: state.doubtful),
+    "19 for the frame place alone with CP": declined_by_start(19, lambda record, state:
+                                                              state.frame_place > 63),
+    "19 for the sequence place alone with CP": declined_by_start(19, lambda record, state:
+                                                                 state.sequence_place > 15),
+    "19 from frame place 63 on with CP": declined_by_start(
+        19, lambda record, state: state.frame_place > 62 or state.sequence_place > 15),
+    "19 from sequence place 15 on with CP": declined_by_start(
+        19, lambda record, state: state.frame_place > 63 or state.sequence_place > 14),
+    "18 told as 14 with CP": told_by_start(18, 14),
+    "19 told as 18 with CP": told_by_start(19, 18),
+    "state found from 23 octets": {"start.FOUND_FROM": 23},
+    "state found from 25 octets": {"start.FOUND_FROM": 25},
+    "history found of 22 bits": found_by(lambda octets, state, after:
+                                         dict(history=after.history % 2**22)),
+    "history found of 24 bits": found_by(lambda octets, state, after: dict(
+        history=after.history | (octets[-25:][0] ^ octets[-24]) >> 7 << 23)),
+    "state found from the first 24": {"start.last_signs": lambda octets:
+                                      [octet >> 7 for octet in octets[:24]]},
+    "state found one octet early": {"start.last_signs": lambda octets:
+                                    [octet >> 7 for octet in octets[-25:-1]]},
+    "history found in the reverse order": {"start.history_of": lambda bits:
+                                           RIGHT_START["history_of"](bits[::-1])},
+    "signs taken in the reverse order": {"start.last_signs": lambda octets:
+                                         RIGHT_START["last_signs"](octets)[::-1]},
+    "first bit found against sign 0": against(lambda state: 0),
+    "first bit found against the state's sign": against(lambda state: state.sign),
+    "history found of signs": found_by(lambda octets, state, after: dict(
+        history=starts.history_of([octet >> 7 for octet in octets[-23:]]))),
+    "history found behind the descrambler": found_by(descrambled_history),
+    "history found by the lowest bits": found_by(lambda octets, state, after: dict(
+        history=starts.history_of(starts.scrambled_bits([octet & 1 for octet in octets[-24:]])))),
+    "history found over the one handed in": found_by(lambda octets, state, after: dict(
+        history=after.history | state.history)),
+    "upper bits of the history kept": found_by(lambda octets, state, after: dict(
+        history=after.history | state.history >> 23 << 23)),
+    "history not found": found_by(lambda octets, state, after: dict(history=state.history)),
+    "sign not found": found_by(lambda octets, state, after: dict(sign=state.sign)),
+    "sign found inverted": found_by(lambda octets, state, after: dict(sign=1 - after.sign)),
+    "sign found of the first octet": found_by(lambda octets, state, after: dict(
+        sign=octets[-24] >> 7)),
+    "sign 0 found": found_by(lambda octets, state, after: dict(sign=0)),
+    "count cleared where a state is found": found_by(lambda octets, state, after: dict(doubtful=0)),
+    "count 24 where a state is found": found_by(lambda octets, state, after: dict(doubtful=24)),
+    "places cleared where a state is found": found_by(lambda octets, state, after: dict(
+        frame_place=0, sequence_place=0)),
+    "fields cleared where a state is found": found_by(lambda octets, state, after: ZERO_FIELDS),
+    "lost cleared where a state is found": found_by(lambda octets, state, after: dict(lost=0)),
+    "find_state refusing 14": finding_refused(lambda held, octets, state: [
+        *held, *[Refusal(14)] * (state.history >= 2**23)]),
+    "find_state refusing 14 first": finding_refused(lambda held, octets, state: [
+        *[Refusal(14)] * (state.history >= 2**23), *held]),
+    "find_state refusing 18": finding_refused(lambda held, octets, state: [
+        *held, *[Refusal(18)] * (state.doubtful > 24)]),
+    "find_state refusing 19": finding_refused(lambda held, octets, state: [
+        *held, *[fault for fault in frames.state_faults(state) if fault.number == 19]]),
+    "find_state refusing 16 above 24 octets": finding_refused(
+        lambda held, octets, state: held if len(octets) <= 24 else [Refusal(16)]),
+    "find_state refusing with 17": finding_refused(
+        lambda held, octets, state: [Refusal(17) for _ in held]),
+    "find_state refusing nothing": {"start.find_state": found_at_all},
+    "state zeroed by a refused find_state": {"start.find_state": lambda octets, state: (
+        lambda refusal, after: (refusal, FRESH if refusal else after))(
+            *RIGHT_START["find_state"](octets, state))},
+    "state put in bounds by a refused find_state": {"start.find_state": lambda octets, state: (
+        lambda refusal, after: (refusal, after._replace(
+            history=after.history % 2**23, doubtful=min(after.doubtful, 24))))(
+                *RIGHT_START["find_state"](octets, state))},
+}
+
+
 def stored_rows():
     """The stored rows of Table 1 and lines of the DIL."""
     return (stored_text("vectors_pcm/stdout") + stored_text("vectors_dil/stdout")).splitlines()
@@ -2441,15 +3049,17 @@ def stopped(changes, both, stored):
 
 def wrong_codecs():
     """Every wrong codec fails at a stored case, row or line; the short ones are looked at first."""
-    both, stored = sorted(stored_cases(), key=lambda pair: len(pair[0])), stored_rows()
-    wrong = WRONG_CODECS | WRONG_CHANNELS
-    found = {name: stopped(changes, both, stored) for name, changes in wrong.items()}
+    both, stored = sorted(stored_cases(), key=lambda pair: sum(map(len, pair))), stored_rows()
+    of_start = sorted(both, key=lambda pair: pair[0][0] < forms.SEND_CP)
+    wrong = WRONG_CODECS | WRONG_CHANNELS | WRONG_STARTS
+    found = {name: stopped(changes, of_start if name in WRONG_STARTS else both, stored)
+             for name, changes in wrong.items()}
     if "-v" in sys.argv:
         for name, count in found.items():
             print(f"    {name}: fails {count} of {len(both) + len(stored)}")
     check(all(found.values()), f"not stopped: {[name for name in found if not found[name]]}")
     same(stopped({}, both, stored), 0, "the model itself")
-    same(len(found), len(WRONG_CODECS) + len(WRONG_CHANNELS), "names")
+    same(len(found), sum(map(len, (WRONG_CODECS, WRONG_CHANNELS, WRONG_STARTS))), "names")
     return f"{len(found)} stopped"
 
 
@@ -2806,6 +3416,75 @@ def program_sequences():
     return "20 commands"
 
 
+def program_starts():
+    """CP, E_s and data sent by two commands and received by a third, whatever comes before.
+
+    Their octets are those of the entries. Not all of the 24 octets may have Ucode 66: the bits are
+    then as sent, and 24 of them are said to be doubtful.
+    """
+    draw = Draw(9)
+    for n in range(120):
+        record, law, channel = a_record(draw, 1 + n % 28), draw.below(2), draw.below(2)
+        data, count = draw.octets(a_length(draw, n)), cases_cp.length_of(record) + 12
+        files = {"r.cp": cases_cp.plain(record), "data": data}
+        words = f"r.cp {('mu', 'a')[law]}{' control' * channel}"
+        same(said(files, f"start r.cp {('mu', 'a')[law]} > start"),
+             [f"v91: {count} octets sent: {count - 12} of CP and 12 of E_s", "v91: ok"], "start")
+        octets, state = opening(record, law, FRESH, bytes(count))
+        same(files["start"], octets, "octets of start")
+        check(said(files, f"send {words} start < data > line")[-1] == "v91: ok", "send")
+        few = frames_for(record, channel, len(data))[0]
+        if few <= 1024:
+            wanted, _ = sent(record, law, few, state, data + bytes(6), channel)
+            same(files["line"], wanted, "octets of send")
+        kept = draw.pick((count, 24, draw.between(24, count)))
+        files["line"] = draw.octets(count - kept) + octets[-kept:] + files["line"]
+        lines = said(files, f"receive {words} Start {len(data)} < line > back")
+        same((files["back"], lines[0], lines[-1]),
+             (data, f"v91: line state found from the last 24 of {count} octets of CP and E_s",
+              "v91: ok"), "receive")
+        place, other = draw.between(count - 24, count - 1), draw.pick((0, 65, 67, 127))
+        odd = octet_of(law, octets[place] >> 7, other)
+        files["odd"] = files["line"][:place] + bytes([odd]) + files["line"][place + 1:]
+        lines = said(files, f"receive {words} START {len(data)} < odd > back")
+        same((files["back"], lines[0]), (data, f"v91: the last 24 of {count} octets of CP and E_s "
+                                         "are not all of Ucode 66, so the first 24 bits are "
+                                         "doubtful"), "receive with another Ucode")
+        doubtful = min(24, frames.data_bits(record, few, channel))
+        check(not doubtful or f"v91: {doubtful} bits of good frames doubtful in all" in lines,
+              "doubtful bits")
+    return "120 messages"
+
+
+def start_sentences():
+    """What is said of CP and E_s, by examples."""
+    files = {"example.cp": cases_cp.plain(EXAMPLE), "none.cp": cases_cp.plain(EMPTY), "one": b"\0"}
+    told = {"none.cp mu start < one": "1 octet received, too few for CP and E_s, which have 306",
+            "none.cp mu start 0": "0 octets received, too few for CP and E_s, which have 306",
+            "example.cp mu begin": "after LAW receive takes BYTES, a number of 1 to 18 digits, "
+                                   "and the words cold, control, start and progress alone"}
+    for words, sentence in told.items():
+        same(said(files, f"receive {words}"), [f"v91: {sentence}", "v91: failed"], words)
+    program.transcript(files, "start none.cp a > line")
+    files["line"] += bytes(7)
+    found = "v91: line state found from the last 24 of 306 octets of CP and E_s"
+    same(said(files, "receive example.cp a start cold < line > back"),
+         [found, "v91: frame 0: interval 0 outside its mask",
+          "v91: 1 frame received, 1 of them marked", "v91: 0 bits of good frames doubtful in all",
+          "v91: 24 coming bits to distrust", "v91: 1 octet at the end too few for a frame",
+          "v91: 5 bits of data in the last byte", "v91: ok"], "receive cold")
+    same(said(files, "receive none.cp a start cold < line > back"),
+         [found, "v91: 0 frames received, 0 of them marked", "v91: 24 coming bits to distrust",
+          f"v91: {program.CLEARDOWN}", "v91: failed"], "cleardown")
+    same(describe.demo_lines()[13:17],
+         ["Its bits and the twelve zero bits of E_s, sent in 306 octets, mu-law; the last 24 of "
+          "them:", "  3dbd3dbdbdbd 3d3dbdbdbdbd 3dbd3dbdbd3d 3d3dbdbdbd3d",
+          "The line state that the receiver finds from these: history 7507785, last sign 0",
+          "63 one bits, sent from there on in 3 frames of six PCM octets each, mu-law:"],
+         "the demo")
+    return "7 sentences"
+
+
 def program_sentences():
     """What is said of marks, of words and of rates, by examples."""
     same(program.run_sentences([0, 3, 3, 0, 7, 1, 0, 6]),
@@ -2839,9 +3518,9 @@ def program_sentences():
          ["28", "29 1/3", "30 2/3", "32", "49 1/3", "64"], "rates")
     same(describe.mask_line(1, 0x1FD1), "mask 1: Ucodes 0 4 6-12", "a mask")
     same(describe.demo_lines()[-2:],
-         ["bits 21 to 44, the 24 after it, are doubtful: 7 of them are not as sent",
+         ["bits 21 to 44, the 24 after it, are doubtful: 12 of them are not as sent",
           "bits 45 to 62 are as sent again"], "the demo's end")
-    ones, heard = b"\xff" * 8, bytes.fromhex("000080ff0ffeff7f")
+    ones, heard = b"\xff" * 8, bytes.fromhex("000000839affff7f")
     same([describe.wrong_bits(ones, heard, *part) for part in ((0, 21), (45, 18))], [21, 0],
          "bits of the demo")
     return "marks, words, rates, the demo"
@@ -2885,8 +3564,8 @@ def channel_sentences():
          "sequences sent")
     for words in ("cleardown", "1", "retrain exact", "control 2", "control " + 55 * "1", "on"):
         same(said(files, f"send example.cp mu {words} < data > line")[:-1],
-             ["v91: after LAW send takes the words exact, progress and control alone, and after "
-              "control cleardown, retrain and up to 54 binary digits"], words)
+             ["v91: after LAW send takes the words exact, progress, start and control alone, and "
+              "after control cleardown, retrain and up to 54 binary digits"], words)
 
 
 def a_picture(k, law, spacing):
@@ -3007,7 +3686,7 @@ def stored_run():
     told = {int(number) for number in re.findall(r"\(refusal (\d+)\)", "\n".join(lines))}
     same(told, {*range(2, 12), 13, 25, 26, 27, 28}, "refusals told")
     outcomes = {(program.words_of(command)[0].lower(), good) for command, good in found}
-    for command in ("cp", "send", "receive", "linear", "dil", "plan", "demo"):
+    for command in ("cp", "send", "receive", "start", "linear", "dil", "plan", "demo"):
         check({(command, True), (command, False)} <= outcomes, f"{command} good and failing")
     check({("--version", True), ("run", False), ("nonsense", False)} <= outcomes, "other words")
     same(set(map(len, trial.good_cps().values())), set(describe.CP_LENGTHS), "lengths of CPs read")
@@ -3019,23 +3698,24 @@ def stored_run():
 
 CALL = frames.MOST_FRAMES
 RIGHT_PROGRAM = {name: getattr(program, name)
-                 for name in ("COMMANDS", "bytes_wanted", "check_ceiling", "check_send_words",
-                              "cp_in", "data_told", "frame_count", "frame_sentences", "has_word",
+                 for name in ("COMMANDS", "are_of_start", "begun", "bytes_wanted", "check_ceiling",
+                              "check_send_words", "cp_in", "data_told", "demo_lines",
+                              "found_sentence", "frame_count", "frame_sentences", "has_word",
                               "number_for", "number_told", "octets_for", "octets_read",
                               "part_sentences", "plan_sentence", "receive", "reception",
-                              "run_sentence", "runs_of", "send", "sent_sentence",
-                              "sent_sentences", "sequence_sentence", "state_told", "summary",
-                              "write_dil", "write_plan")}
+                              "run_sentence", "runs_of", "send", "send_start", "sent_sentence",
+                              "sent_sentences", "sequence_sentence", "state_for_sending",
+                              "state_found", "state_told", "summary", "write_dil", "write_plan")}
 RIGHT_RUNS = describe.ucode_runs
 RIGHT_PICTURE = {name: getattr(picture, name)
                  for name in ("Picture", "bar", "drawn_at", "drawing", "gaps_of", "grid_lines",
                               "row_line", "row_lines", "text_lines")}
 
 
-def sender_fresh_each_call(record, law, channel, number, count, data):
-    """Each call of the sender begins in the fresh state."""
+def sender_fresh_each_call(record, law, state, channel, number, count, data):
+    """Each call of the sender begins in the state in which the first began."""
     step = frames.data_bytes(record, CALL, channel)
-    return b"".join(RIGHT_PROGRAM["octets_for"](record, law, channel, number,
+    return b"".join(RIGHT_PROGRAM["octets_for"](record, law, state, channel, number,
                                                 min(CALL, count - CALL * n), data[n * step:])
                     for n in range(-(-count // CALL)))
 
@@ -3390,8 +4070,8 @@ WRONG_PROGRAMS = {
                                       else words),
     "cold taken by send": {"program.COMMANDS": commands_with(send=send_with_cold)},
     "cold not told of": {"program.bytes_wanted": told_of_progress_alone},
-    "six words of receive": receive_taking(5),
-    "eight words of receive": receive_taking(7),
+    "seven words of receive": receive_taking(6),
+    "nine words of receive": receive_taking(8),
     "bits to come not said where 0": summed_up(lambda said, got:
                                                said if got.state.doubtful else said[:-1]),
     "bits to come not said of no frames": summed_up(lambda said, got:
@@ -3675,8 +4355,8 @@ WRONG_CHANNEL_PROGRAMS = {
         else words),
     "words of the channel in small letters alone": {
         "program.has_word": lambda words, wanted: wanted in words},
-    "seven words of send": send_taking(7),
-    "nine words of send": send_taking(9),
+    "eight words of send": send_taking(8),
+    "ten words of send": send_taking(10),
     "53 digits": {"program.is_data": lambda word: bool(re.fullmatch("[01]{1,53}", word))},
     "55 digits": {"program.is_data": lambda word: bool(re.fullmatch("[01]{1,55}", word))},
     "any digits": {"program.is_data": lambda word: bool(re.fullmatch("[0-9]{1,54}", word)),
@@ -3695,8 +4375,8 @@ WRONG_CHANNEL_PROGRAMS = {
     "retrain not sent": number_changed(lambda words, number: number & ~2),
     "cleardown and retrain exchanged by send": number_changed(
         lambda words, number: number & ~3 | mirrored_in(2, number)),
-    "control not told of by send": told_of_words("check_send_words", "exact, progress and control",
-                                                 "exact and progress"),
+    "control not told of by send": told_of_words(
+        "check_send_words", "exact, progress, start and control", "exact, progress and start"),
     "digits not told of by send": told_of_words("check_send_words",
                                                 " and up to 54 binary digits", ""),
     "control not told of by receive": told_of_words("bytes_wanted", "cold, control", "cold"),
@@ -3771,6 +4451,336 @@ WRONG_CHANNEL_PROGRAMS = {
 }
 
 
+# Wrong programs of CP and E_s
+
+def from_state(state):
+    """The changes that let CP begin in another state than zero, in start and in send."""
+    def from_zero(record, law):
+        _, _, left, octets = starts.send_cp(record, law, state, bytes(starts.octet_count(record)))
+        return octets, left
+    return {"program.from_zero": from_zero}
+
+
+def started_with(change):
+    """The changes that make other octets and another state of those that CP and E_s have."""
+    return {"program.from_zero": lambda record, law: change(*starts.from_zero(record, law))}
+
+
+def start_saying(sentence):
+    """The changes that let start say something else, made from the octets of CP and E_s."""
+    def command(call, cp_name, law_name):
+        law = program.law_named(law_name)
+        octets, _ = starts.from_zero(program.cp_in(call.files, cp_name), law)
+        call.write(octets)
+        call.say(sentence(len(octets)))
+    return {"program.COMMANDS": commands_with(start=command)}
+
+
+def start_of_the_file(call, cp_name, law_name):
+    """The bits of the file are sent, the reserved ones and the fill as they stand there."""
+    law = program.law_named(law_name)
+    count = cases_cp.length_of(program.cp_in(call.files, cp_name))
+    bits = bits_in(call.files[cp_name], count) + [0] * 12
+    call.write(starts.send_bits(law, FRESH, bits)[0])
+    call.say(f"{count + 12} octets sent: {count} of CP and 12 of E_s")
+
+
+def start_taking(least, most):
+    """The changes that let start take so many words; LAW not given is mu."""
+    def command(call, cp_name, law_name="mu", *rest):
+        RIGHT_PROGRAM["send_start"](call, cp_name, law_name)
+    return {"program.COMMANDS": program.COMMANDS | {"start": (command, least, most)}}
+
+
+def start_of_no_cleardown(call, cp_name, law_name):
+    """A CP that says cleardown is not sent."""
+    law = program.law_named(law_name)
+    if program.cp_in(call.files, cp_name).drn == 0:
+        raise program.Failed(program.CLEARDOWN)
+    RIGHT_PROGRAM["send_start"](call, cp_name, ("mu", "a")[law])
+
+
+def start_of_cp_first(call, cp_name, law_name):
+    """start looks at the CP file before the law."""
+    program.cp_in(call.files, cp_name)
+    RIGHT_PROGRAM["send_start"](call, cp_name, law_name)
+
+
+def send_from(change):
+    """The changes that let send begin in another state, made from the right one and the words."""
+    return {"program.state_for_sending": lambda record, law, words: change(
+        RIGHT_PROGRAM["state_for_sending"](record, law, words), words)}
+
+
+def send_with_cp(call, cp_name, law_name, *options):
+    """With the word start send writes CP and E_s too."""
+    law = program.law_named(law_name)
+    program.check_send_words(options)
+    if program.has_word(options, "start"):
+        call.write(starts.from_zero(program.cp_in(call.files, cp_name), law)[0])
+    RIGHT_PROGRAM["send"](call, cp_name, law_name, *options)
+
+
+def starting(change):
+    """The changes that let receive with the word start begin otherwise.
+
+    The state and the octets of frames are made from the call, record, law, words and the right
+    ones.
+    """
+    def begun(call, record, law, words):
+        found = RIGHT_PROGRAM["begun"](call, record, law, words)
+        if not program.has_word(words, "start"):
+            return found
+        return change(call, record, law, words, *found)
+    return {"program.begun": begun}
+
+
+def found_by_program(change):
+    """The changes that let receive find the state from other octets than all of CP and E_s."""
+    return {"program.find_state": lambda octets, state: starts.find_state(change(octets), state)}
+
+
+def ucodes_of(change):
+    """The changes that look at the Ucodes of other octets, or in another law."""
+    def state_found(call, law, state, octets):
+        sound = program.are_of_start(*change(law, octets))
+        call.say(program.found_sentence(len(octets), sound))
+        return starts.find_state(octets, state if sound else COLD)[1]
+    return {"program.state_found": state_found}
+
+
+def where_amiss(change):
+    """The changes that give a receiver another state where a Ucode is amiss."""
+    def state_found(call, law, state, octets):
+        sound = program.are_of_start(law, octets[-24:])
+        call.say(program.found_sentence(len(octets), sound))
+        return starts.find_state(octets, state)[1] if sound else change(state, octets)
+    return {"program.state_found": state_found}
+
+
+def enough_octets(change):
+    """The changes that let receive ask for other octets than all of CP and E_s.
+
+    The least number is made from the right one.
+    """
+    def begun(call, record, law, words):
+        count = starts.octet_count(record)
+        if program.has_word(words, "start") and change(count) <= len(call.input) < count:
+            return program.state_found(call, law, program.state_told(words), call.input), b""
+        if program.has_word(words, "start") and count <= len(call.input) < change(count):
+            raise program.Failed(f"{len(call.input)} octets received, too few for CP and E_s, "
+                                 f"which have {count}")
+        return RIGHT_PROGRAM["begun"](call, record, law, words)
+    return {"program.begun": begun}
+
+
+def too_few_by(change):
+    """The changes that fail with other sentences where there are too few octets."""
+    return failing_with(lambda said_of: change(said_of)
+                        if any("too few for CP" in sentence for sentence in said_of) else said_of)
+
+
+def cleardown_before_octets(call, cp_name, law_name, *options):
+    """A CP that says cleardown is told of before the octets are counted."""
+    record = call.files.get(cp_name) and program.read_file(call.files[cp_name])[1]
+    if record and record.drn == 0 and program.has_word(options, "start") and 5 < len(
+            call.input) < starts.octet_count(record):
+        raise program.Failed(*program.summary(program.reception(record, MU, 0, FRESH, b"")),
+                             program.CLEARDOWN)
+    RIGHT_PROGRAM["receive"](call, cp_name, law_name, *options)
+
+
+def nothing_read(call, cp_name, law_name, *options):
+    """With BYTES 0 the octets of CP and E_s are not read."""
+    if program.bytes_wanted(options) == 0:
+        options = [word for word in options if word.lower() != "start"]
+    RIGHT_PROGRAM["receive"](call, cp_name, law_name, *options)
+
+
+def calls_from_cp():
+    """The changes that let the first call of the receiver end 1,024 frames after CP begins."""
+    short = []
+
+    def begun(call, record, law, words):
+        short[:] = [starts.octet_count(record) if program.has_word(words, "start") else 0]
+        return RIGHT_PROGRAM["begun"](call, record, law, words)
+
+    def octets_read(record, channel, octets, wanted):
+        found = RIGHT_PROGRAM["octets_read"](record, channel, octets, wanted)
+        return found[:len(found) - short[0]] if len(found) < len(octets) else found
+    return {"program.begun": begun, "program.octets_read": octets_read}
+
+
+def frames_counted_from_cp():
+    """The changes that count the frames of sequences from the first octet of CP."""
+    first = []
+
+    def begun(call, record, law, words):
+        first[:] = [starts.octet_count(record) // 6 if program.has_word(words, "start") else 0]
+        return RIGHT_PROGRAM["begun"](call, record, law, words)
+    return {"program.begun": begun, "program.sequence_sentence": lambda frame, told:
+            RIGHT_PROGRAM["sequence_sentence"](frame + first[0], told)}
+
+
+def found_said(change):
+    """The changes that say something else of the state found, made from the octets and if sound."""
+    return {"program.found_sentence": lambda count, sound: change(
+        RIGHT_PROGRAM["found_sentence"](count, sound), count, sound)}
+
+
+def unheard(call):
+    """The call, but what it writes and says goes nowhere."""
+    return program.Call(call.files, call.input, bytearray(), bytearray())
+
+
+def found_said_last(call, cp_name, law_name, *options):
+    """What is said of the state found comes after all else."""
+    held = []
+
+    def state_found(inner, law, state, octets):
+        held.append(program.found_sentence(len(octets), program.are_of_start(law, octets[-24:])))
+        return RIGHT_PROGRAM["state_found"](unheard(inner), law, state, octets)
+    with patch("program.state_found", state_found):
+        RIGHT_PROGRAM["receive"](call, cp_name, law_name, *options)
+    for sentence in held:
+        call.say(sentence)
+
+
+def demo_by(change):
+    """The changes that make other lines of the demo from the right ones."""
+    return {"program.demo_lines": lambda: change(RIGHT_PROGRAM["demo_lines"]())}
+
+
+WRONG_START_PROGRAMS = {
+    "start: from the sign 1": from_state(State(0, 1, 0)),
+    "start: from a history of ones": from_state(State(2**23 - 1, 0, 0)),
+    "start: from the state that its CP left": {"program.from_zero": lambda record, law: (
+        lambda state: from_state(state)["program.from_zero"](record, law))(
+            starts.from_zero(record, law)[1])},
+    "start: in mu-law alone": {"program.from_zero": lambda record, law:
+                               starts.from_zero(record, MU)},
+    "start: in A-law alone": {"program.from_zero": lambda record, law: starts.from_zero(record, A)},
+    "start: E_s not written": started_with(lambda octets, state: (octets[:-12], state)),
+    "start: written twice": started_with(lambda octets, state: (2 * octets, state)),
+    "start: the CP of the example": {"program.from_zero": lambda record, law:
+                                     starts.from_zero(EXAMPLE, law)},
+    "start: CP counted with E_s": start_saying(lambda count:
+                                               f"{count} octets sent: {count} of CP and 12 of E_s"),
+    "start: CP counted alone": start_saying(lambda count: f"{count - 12} octets sent: {count - 12} "
+                                            "of CP and 12 of E_s"),
+    "start: frames said": start_saying(lambda count: f"{count // 6} frames sent"),
+    "start: the bits of the file": {"program.COMMANDS": commands_with(start=start_of_the_file)},
+    "start: cleardown refused": {"program.COMMANDS": commands_with(start=start_of_no_cleardown)},
+    "start: CP before the law": {"program.COMMANDS": commands_with(start=start_of_cp_first)},
+    "start: one word": start_taking(1, 2),
+    "start: three words": start_taking(2, 3),
+    "send: start not looked at": send_from(lambda state, words: FRESH),
+    "send: start always": {"program.state_for_sending": lambda record, law, words:
+                           starts.from_zero(record, law)[1]},
+    "send: history of CP alone": send_from(lambda state, words: state._replace(sign=0)),
+    "send: sign of CP alone": send_from(lambda state, words: state._replace(history=0)),
+    "send: CP and E_s written": {"program.COMMANDS": commands_with(send=send_with_cp)},
+    "send: from the state before E_s": started_with(lambda octets, state: (
+        octets, starts.find_state(octets[:-12], FRESH)[1])),
+    "send: start not taken": words_by(lambda words: [
+        "x" if word.lower() == "start" else word for word in words]),
+    "send: start after control alone": words_by(lambda words: [
+        "x" if word.lower() == "start" and not program.has_word(words[:n], "control") else word
+        for n, word in enumerate(words)]),
+    "send: start not told of": told_of_words("check_send_words", "progress, start and control",
+                                             "progress and control"),
+    "send: starts taken": words_by(lambda words: [
+        "start" if word.lower() == "starts" else word for word in words]),
+    "receive: start not looked at": starting(lambda call, record, law, words, state, line: (
+        program.state_told(words), call.input)),
+    "receive: begun fresh": {"program.find_state": lambda octets, state: (None, state)},
+    "receive: history found alone": {"program.find_state": lambda octets, state: (
+        None, starts.find_state(octets, state)[1]._replace(sign=0))},
+    "receive: sign found alone": {"program.find_state": lambda octets, state: (
+        None, starts.find_state(octets, state)[1]._replace(history=0))},
+    "receive: CP and E_s taken for frames": starting(
+        lambda call, record, law, words, state, line: (state, call.input)),
+    "receive: E_s taken for frames": starting(lambda call, record, law, words, state, line: (
+        state, call.input[-len(line) - 12:])),
+    "receive: state found one octet early": found_by_program(lambda octets: octets[:-1]),
+    "receive: state found before E_s": found_by_program(lambda octets: octets[:-12]),
+    "receive: state found from the first 24": found_by_program(lambda octets: octets[:24]),
+    "receive: state found one octet late": starting(
+        lambda call, record, law, words, state, line: (starts.find_state(
+            call.input[:starts.octet_count(record) + 1], state)[1], line)),
+    "receive: state as the CP leaves it": starting(
+        lambda call, record, law, words, state, line: (starts.from_zero(record, law)[1]._replace(
+            doubtful=state.doubtful), line)),
+    "receive: 306 octets of any CP": {"program.octet_count": lambda record: 306},
+    "receive: the CP without E_s": {"program.octet_count": lambda record:
+                                    starts.octet_count(record) - 12},
+    "receive: cold not applied where a Ucode is wrong": where_amiss(
+        lambda state, octets: starts.find_state(octets, state)[1]),
+    "receive: no state found where a Ucode is wrong": where_amiss(lambda state, octets: COLD),
+    "receive: begun fresh where a Ucode is wrong": where_amiss(lambda state, octets: FRESH),
+    "receive: fails where a Ucode is wrong": {
+        "program.are_of_start": lambda law, octets: RIGHT_PROGRAM["are_of_start"](law, octets)
+        or program.law_named("doubtful")},
+    "receive: Ucodes not looked at": {"program.are_of_start": lambda law, octets: True},
+    "receive: Ucodes of all octets looked at": ucodes_of(lambda law, octets: (law, octets)),
+    "receive: Ucodes of 23 octets looked at": ucodes_of(lambda law, octets: (law, octets[-23:])),
+    "receive: Ucodes of 25 octets looked at": ucodes_of(lambda law, octets: (law, octets[-25:])),
+    "receive: Ucode of the last octet not looked at": ucodes_of(
+        lambda law, octets: (law, octets[-24:-1])),
+    "receive: Ucodes of mu-law looked at": ucodes_of(lambda law, octets: (MU, octets[-24:])),
+    "receive: Ucodes of either law looked at": {"program.are_of_start": lambda law, octets: any(
+        RIGHT_PROGRAM["are_of_start"](each, octets) for each in (MU, A))},
+    "receive: cold lost with start": starting(
+        lambda call, record, law, words, state, line: (state._replace(
+            doubtful=state.doubtful if not program.has_word(words, "cold") else 0), line)),
+    "receive: cold always with start": starting(
+        lambda call, record, law, words, state, line: (state._replace(doubtful=24), line)),
+    "receive: 24 octets enough": enough_octets(lambda count: 24),
+    "receive: all but one enough": enough_octets(lambda count: count - 1),
+    "receive: CP and E_s alone not enough": enough_octets(lambda count: count + 1),
+    "receive: too few told as frames": too_few_by(lambda said_of: [
+        "0 frames received, 0 of them marked", "0 coming bits to distrust", *said_of]),
+    "receive: too few told in octets always": too_few_by(lambda said_of: [
+        said_of[0].replace("1 octet ", "1 octets ")]),
+    "receive: octets lacking told": too_few_by(lambda said_of: [
+        re.sub(r"^\d+", lambda n: str(306 - int(n[0])), said_of[0])]),
+    "receive: cleardown told before too few": {"program.COMMANDS": commands_with(
+        receive=cleardown_before_octets)},
+    "receive: nothing read with BYTES 0": {"program.COMMANDS": commands_with(receive=nothing_read)},
+    "receive: BYTES of CP counted": calls_from_cp(),
+    "receive: frames counted from CP": frames_counted_from_cp(),
+    "receive: state found not said": {"program.state_found": lambda call, *rest: RIGHT_PROGRAM[
+        "state_found"](unheard(call), *rest)},
+    "receive: state found not said at cleardown": {
+        "program.begun": lambda call, record, *rest: RIGHT_PROGRAM["begun"](
+            call if record.drn else unheard(call), record, *rest)},
+    "receive: state found said last": {"program.COMMANDS": commands_with(receive=found_said_last)},
+    "receive: found said where a Ucode is wrong": found_said(
+        lambda sentence, count, sound: RIGHT_PROGRAM["found_sentence"](count, True)),
+    "receive: octets of CP alone said": found_said(
+        lambda sentence, count, sound: RIGHT_PROGRAM["found_sentence"](count - 12, sound)),
+    "receive: 23 bits said to be doubtful": found_said(
+        lambda sentence, count, sound: sentence.replace("first 24 bits", "first 23 bits")),
+    "receive: start not told of": told_of_words("bytes_wanted", "control, start", "control"),
+    "receive: start in small letters alone": {
+        "program.has_word": lambda words, wanted:
+        wanted in words if wanted == "start" else RIGHT_PROGRAM["has_word"](words, wanted)},
+    "demo: from the zero state": {"describe.from_zero": lambda record, law: (
+        starts.from_zero(record, law)[0], FRESH), "describe.find_state": lambda octets, state:
+        (None, FRESH)},
+    "demo: received from the zero state": {"describe.find_state": lambda octets, state:
+                                           (None, FRESH)},
+    "demo: the first 24 octets": {"describe.from_zero": lambda record, law: (
+        starts.from_zero(record, law)[0][:24], starts.from_zero(record, law)[1])},
+    "demo: A-law": {"describe.from_zero": lambda record, law: starts.from_zero(record, A)},
+    "demo: history in hexadecimal": demo_by(lambda lines: [
+        line.replace("7507785", "728f49") for line in lines]),
+    "demo: octets not in groups": demo_by(lambda lines: [
+        line.replace("3dbd3dbdbdbd ", "3dbd3dbdbdbd") for line in lines]),
+    "version 5": {"program.VERSION": "v91 5"},
+}
+
+
 def first_differing(changes, wanted):
     """The line, from 1, at which a wrong program's run first differs; 0 where it does not.
 
@@ -3790,7 +4800,7 @@ def first_differing(changes, wanted):
 def wrong_programs():
     """Every wrong program differs from the stored run. A frame that is made again is remembered."""
     wanted = vectors.stored("v91/stdout").splitlines()
-    wrong = WRONG_PROGRAMS | WRONG_CHANNEL_PROGRAMS
+    wrong = WRONG_PROGRAMS | WRONG_CHANNEL_PROGRAMS | WRONG_START_PROGRAMS
     remembered = {f"program.{name}": lru_cache(maxsize=None)(getattr(frames, name))
                   for name in ("send_frame", "receive_frame")}
     with changed(remembered):
@@ -3800,18 +4810,20 @@ def wrong_programs():
             print(f"    {name}: differs from line {line} of {len(wanted)} on")
     check(all(found.values()), f"not stopped: {[name for name in found if not found[name]]}")
     same(first_differing({}, wanted), 0, "the model itself")
-    same(len(found), len(WRONG_PROGRAMS) + len(WRONG_CHANNEL_PROGRAMS), "names")
+    lists = (WRONG_PROGRAMS, WRONG_CHANNEL_PROGRAMS, WRONG_START_PROGRAMS)
+    same(len(found), sum(map(len, lists)), "names")
     return f"{len(found)} stopped"
 
 
 GROUPS = (table_1, examples, values, steps, cp_round_trips, demand_3, distrust, other_counts,
           stored_answers, stored_refusals, stored_coverage, stored_counts, empty_intervals,
           sequences, calls_of_the_channel, channel_runs, like_states, passed_through,
-          stored_channel,
+          stored_channel, start_values, start_undone, start_found, start_to_data, start_refusals,
+          stored_starts,
           other_dils, default_dil, wrong_codecs, plan_sizes, plan_least, plan_answers, plan_ranges,
           plan_largest, stored_plans, wrong_planners, program_round_trips, program_doubts,
-          program_sequences, program_sentences, plan_sentences, pictures, stored_run,
-          wrong_programs)
+          program_sequences, program_starts, program_sentences, start_sentences, plan_sentences,
+          pictures, stored_run, wrong_programs)
 
 
 def main():

@@ -4,9 +4,10 @@ from cases_cp import ALL_FULL, body, in_bytes, noisy, plain, sealed
 from cases_frames import a_frame, possible_marks
 from cp import ONE_AT
 from frames import FRESH, data_bytes, interval_masks, ucodes_for
-from program import octets_for, reception
+from program import frame_count, octets_for, reception
 from record import EMPTY, EXAMPLE, FULL_MASK, make
 from samples import Draw, a_record
+from start import FOUND_FROM, from_zero
 from table1 import A, MU, octet_of
 
 ARGUMENTS = "run\ntrial\n"
@@ -155,7 +156,7 @@ DAMAGED = (0, 0, 3, 0, 0, 7, 7, 7, 0, 1, 2, 2, 0, 0, 0, 6, 0, 4, 5, 7, 7, 0, 0, 
 def damaged(draw, record, law, marks):
     """Frames of data at random of which some are replaced so that they get these marks."""
     data = draw.octets(data_bytes(record, len(marks)))
-    line = octets_for(record, law, 0, 0, len(marks), data)
+    line = octets_for(record, law, FRESH, 0, 0, len(marks), data)
     return b"".join(a_frame(draw, record, law, mark) if mark else line[6 * n:6 * n + 6]
                     for n, mark in enumerate(marks))
 
@@ -178,7 +179,7 @@ SLIPS = {959: 3, 961: 7, 962: 7, **dict.fromkeys(range(1100, 1140, 2), 1), 1216:
 def slips(draw):
     """Octets of two sequences: the first has two bits not as sent, the second a marked frame."""
     data = draw.octets(data_bytes(EXAMPLE, 1986, 1))
-    line = bytearray(octets_for(EXAMPLE, MU, 1, draw.bits(56), 1986, data))
+    line = bytearray(octets_for(EXAMPLE, MU, FRESH, 1, draw.bits(56), 1986, data))
     line[6 * 320 + 2] ^= 0x80
     for n, mark in SLIPS.items():
         line[6 * n:6 * n + 6] = a_frame(draw, EXAMPLE, MU, mark)
@@ -192,22 +193,59 @@ def lines_of_octets():
     return {
         "damaged": damaged(draw, EXAMPLE, MU, DAMAGED),
         "many": damaged(draw, GAPS, A, many_marks(draw, GAPS)) + draw.octets(2),
-        "ragged": octets_for(EXAMPLE, A, 0, 0, 8, hello) + draw.octets(1),
+        "ragged": octets_for(EXAMPLE, A, FRESH, 0, 0, 8, hello) + draw.octets(1),
         "five": draw.octets(5),
         "every": bytes(range(256)),
         "bad_first": damaged(draw, EXAMPLE, MU, BAD_FIRST),
         "bad_later": damaged(draw, EXAMPLE, MU, BAD_LATER),
         "bad_last": damaged(draw, EXAMPLE, MU, BAD_LAST),
         "bad_all": damaged(draw, EXAMPLE, MU, BAD_ALL),
-        "middle": octets_for(EIGHTS, MU, 0, 0, 10, two)[6:],
+        "middle": octets_for(EIGHTS, MU, FRESH, 0, 0, 10, two)[6:],
         "slips": slips(draw),
+    }
+
+
+# Octets that begin with CP and E_s
+
+def opened(record, law, data, channel=0, number=0):
+    """Octets of CP and E_s, then those of all frames of data."""
+    start, state = from_zero(record, law)
+    count = frame_count(record, channel, data, False)
+    return start + octets_for(record, law, state, channel, number, count, data)
+
+
+def altered(line, place, octet):
+    """A line with another octet at a place."""
+    return line[:place] + bytes([octet]) + line[place + 1:]
+
+
+def lines_with_start():
+    """Lines that begin with CP and E_s, cut, with other octets before the last 24, or in these.
+
+    In `turned` a sign of the 24 is another. In `first` the first of them has Ucode 65 and its sign,
+    in `last` the last of them Ucode 67 and the other sign.
+    """
+    line = opened(EXAMPLE, MU, messages()["hello"])
+    end = len(from_zero(EXAMPLE, MU)[0])
+    first, last = end - FOUND_FROM, end - 1
+    return {
+        "open": line,
+        "alaw": opened(GAPS, A, messages()["two"]),
+        "long": opened(EXAMPLE, MU, messages()["verse"], 1, 0b1011),
+        "cut23": line[:23],
+        "cut24": line[:24],
+        "cut305": line[:305],
+        "noise": Draw(34).octets(first) + line[first:],
+        "turned": altered(line, first + 12, line[first + 12] ^ 0x80),
+        "first": altered(line, first, octet_of(MU, line[first] >> 7, 65)),
+        "last": altered(line, last, octet_of(MU, 1 - (line[last] >> 7), 67)),
     }
 
 
 def data_files():
     """The files that the script reads: {name: bytes}."""
     return {**good_cps(), **refused_cps(), **messages(), "joined": joined(),
-            "channel": channel_data(), **lines_of_octets()}
+            "channel": channel_data(), **lines_of_octets(), **lines_with_start()}
 
 
 # The script
@@ -264,7 +302,7 @@ cp
 cp example.cp seven.cp
 send
 send example.cp
-send example.cp mu exact progress control cleardown retrain 1 0
+send example.cp mu exact progress control cleardown retrain 1 0 start
 send example.cp xlaw
 send missing.cp m\tu
 send missing.cp xlaw 12
@@ -280,9 +318,10 @@ send example.cp mu control -1
 send missing.cp mu 1 control faster
 send example.cp mu control 0000000000000000000000000000000000000000000000000000001
 send missing.cp mu 01 retrain control
+send example.cp mu starts
 receive example.cp
-receive example.cp mu 1 2 3 4 5
-receive example.cp mu 20 cold control progress cold
+receive example.cp mu 1 2 3 4 5 6
+receive example.cp mu 20 cold control progress start cold
 receive example.cp xlaw
 receive missing.cp b 20
 receive missing.cp mu exact
@@ -294,12 +333,18 @@ receive example.cp mu control retrain
 receive missing.cp mu 20 controls
 receive missing.cp mu control
 receive missing.cp mu 20 cold
+receive missing.cp mu start starts
 receive example.cp mu -1
 receive example.cp mu 1234567890123456789
 linear
 linear mu progress progress
 linear xlaw
 linear mu exact
+start example.cp
+start example.cp mu progress
+start missing.cp xlaw
+start missing.cp mu
+start hollow.cp a
 dil
 dil mu progress
 dil xlaw
@@ -659,4 +704,40 @@ send cleardown.cp mu control 1 < nothing > octets
 send cleardown.cp mu control < hello > none
 receive cleardown.cp mu control < nothing > back
 receive cleardown.cp mu control cold < damaged > none
+
+# CP and E_s: each length, both laws, and cleardown
+start noisy.cp mu > octets
+receive example.cp mu start < octets > back
+linear a < octets
+START seven.cp ALAW > octets
+start lacking.cp a > octets
+start gaps.cp mu > octets
+start upper.cp a > octets
+start full.cp a > octets
+receive full.cp a cold start < octets > back
+start cleardown.cp ulaw > octets
+
+# Data from the line state that CP and E_s leave, received from the one found
+send third.cp mu start < hello > octets
+linear a < octets
+send upper.cp mu START exact Retrain 1 progress control cleardown < two > octets
+receive example.cp mu start 20 < open
+receive example.cp mu 20 < open > none
+receive gaps.cp a Start 30 < alaw
+receive example.cp mu 100 cold control start progress < long > back
+receive example.cp mu start control < long > none
+receive cleardown.cp mu start < open > none
+receive cleardown.cp a start < open > none
+
+# Octets too few for CP and E_s, and others before the last 24 of these or among them
+receive example.cp mu start < nothing
+receive example.cp mu start < newline
+receive example.cp mu 0 start < cut23
+receive example.cp mu start < cut24
+receive cleardown.cp mu start < cut305
+receive example.cp mu start 20 < noise
+receive example.cp mu start < turned > back
+receive example.cp mu start 20 < first
+receive example.cp mu start < last > back
+linear a < back
 """

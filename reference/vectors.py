@@ -9,6 +9,7 @@ from pathlib import Path
 
 import cases_cp
 import cases_frames
+import cases_start
 import dil
 import plan
 import trial
@@ -101,7 +102,8 @@ def texts():
     """The stored files of the programs vectors_*: {path under crates: text}."""
     made = {"vectors_pcm/stdout": pcm_lines(), "vectors_dil/stdout": dil_lines(),
             "vectors_plan/stdout": plan_lines()}
-    for name, cases in (("vectors_cp", cases_cp.cases()), ("vectors_frames", cases_frames.cases())):
+    for name, cases in (("vectors_cp", cases_cp.cases()), ("vectors_frames", cases_frames.cases()),
+                        ("vectors_start", cases_start.cases())):
         made[f"{name}/stdin"] = hex_lines(cases)
         made[f"{name}/stdout"] = hex_lines(map(answer, cases))
     return made

@@ -575,6 +575,53 @@ uint32_t plain_send_dil(bool a_law, uint8_t *octets, size_t octets_len)
     return count;
 }
 
+/* CP and E_s: a scrambled bit for each octet, whose sign it turns or not. */
+
+enum { CP_BYTES = 122, END_BITS = 12, FIND_OCTETS = 24, BIT_UCODE = 66 };
+
+static const uint32_t histories = (uint32_t)1 << HISTORY_BITS;
+
+uint32_t plain_send_cp(const uint8_t *record, size_t record_len, bool a_law, uint8_t *octets, size_t octets_len,
+                       uint8_t *state, size_t state_len)
+{
+    struct record r;
+    uint8_t cp[CP_BYTES], positive = (a_law ? 0xD5 : 0xFF) ^ BIT_UCODE;
+
+    uint32_t refusal = call_refusal(&r, record, record_len, 0, state, state_len);
+    if (refusal)
+        return refusal;
+    unsigned bits = cp_length(largest_index(&r)), count = bits + END_BITS;
+    if (octets_len < count)
+        return 17;
+    plain_write_cp(record, record_len, cp, sizeof cp);
+    uint32_t history = (uint32_t)get_number(state, 4);
+    unsigned sign = state[4] != 0;
+    for (unsigned n = 0; n < count; n++) {
+        unsigned bit = n < bits ? cp[n / 8] >> n % 8 & 1 : 0;
+        bit ^= (history >> 17 ^ history >> 22) & 1;
+        history = (history << 1 | bit) % histories;
+        sign ^= bit;
+        octets[n] = positive & (sign ? 0xFF : 0x7F);
+    }
+    put_number(state, 4, history);
+    state[4] = (uint8_t)sign;
+    return count;
+}
+
+uint32_t plain_find_state(const uint8_t *octets, size_t octets_len, uint8_t *state, size_t state_len)
+{
+    uint32_t history = 0;
+
+    if (state_len < STATE_BYTES || octets_len < FIND_OCTETS)
+        return 16;
+    octets += octets_len - FIND_OCTETS;
+    for (int n = 1; n < FIND_OCTETS; n++)
+        history = history << 1 | (octets[n] ^ octets[n - 1]) >> 7;
+    put_number(state, 4, history);
+    state[4] = octets[FIND_OCTETS - 1] >> 7;
+    return 0;
+}
+
 /* A mask for a wanted rate: the lowest Ucode that keeps the spacing, again and again. No point of any other mask
    is lower than the one in its place, so no sum is less. */
 

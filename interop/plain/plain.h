@@ -19,6 +19,9 @@ uint32_t plain_receive(const uint8_t *record, size_t record_len, bool a_law, siz
 uint32_t plain_linear(bool a_law, const uint8_t *octets, size_t octets_len,
                       int32_t *samples, size_t samples_len);
 uint32_t plain_send_dil(bool a_law, uint8_t *octets, size_t octets_len);
+uint32_t plain_send_cp(const uint8_t *record, size_t record_len, bool a_law, uint8_t *octets, size_t octets_len,
+                       uint8_t *state, size_t state_len);
+uint32_t plain_find_state(const uint8_t *octets, size_t octets_len, uint8_t *state, size_t state_len);
 uint32_t plain_plan(uint32_t k, bool a_law, uint32_t spacing, uint64_t ceiling, uint8_t *plan, size_t plan_len);
 
 #endif

@@ -1,6 +1,8 @@
-// The program's example: a CP is written and read, 63 bits are sent and received, and then again with one octet damaged on the line.
+// The program's example: a CP is written and read, sent with E_s, then 63 bits are sent and received, and again with one octet damaged on
+// the line.
 use crate::add_record;
 use standard::Law;
+use standard::LineState;
 use standard::Record;
 use std::num::wrapping_sub_u64;
 use streams::fresh_state;
@@ -91,25 +93,26 @@ fn add_bits(text: &mut [u8], at: usize, bytes: &[u8], marks: &[u8]) -> usize
     )
 }
 
-// Receives three frames of octets from the fresh state on, with the control channel off.
-fn receive_three(octets: &[u8], bytes: &mut [u8], marks: &mut [u8]) {
+// Receives three frames of octets from a line state on, with the control channel off.
+fn receive_three(state: LineState, octets: &[u8], bytes: &mut [u8], marks: &mut [u8]) {
     codec::receive(
         example_record(),
         Law::Mu,
         3,
         false,
-        fresh_state(),
+        state,
         octets,
         bytes,
         marks,
     );
 }
 
-// Adds a title, three frames of octets and what is received of them; `bytes` and `marks` then hold it.
+// Adds a title, three frames of octets and what is received of them from a line state on; `bytes` and `marks` then hold it.
 fn add_received(
     text: &mut [u8],
     at: usize,
     title: &[u8],
+    state: LineState,
     octets: &[u8],
     bytes: &mut [u8],
     marks: &mut [u8],
@@ -118,7 +121,7 @@ fn add_received(
     ensures { λ end. ⌜ end ≤ length (now (text .entry)) ⌝ }
 {
     let at = add_octets(text, at, title, octets);
-    receive_three(octets, bytes, marks);
+    receive_three(state, octets, bytes, marks);
     add_bits(text, at, bytes, marks)
 }
 
@@ -126,6 +129,7 @@ fn add_received(
 fn add_good(
     text: &mut [u8],
     at: usize,
+    state: LineState,
     octets: &[u8],
     sent: &[u8],
     bytes: &mut [u8],
@@ -137,7 +141,8 @@ fn add_good(
     let at = add_received(
         text,
         at,
-        b"63 one bits, sent in 3 frames of six PCM octets each, mu-law:\n ",
+        b"63 one bits, sent from there on in 3 frames of six PCM octets each, mu-law:\n ",
+        state,
         octets,
         bytes,
         marks,
@@ -194,6 +199,7 @@ fn damage(octets: &mut [u8])
 fn add_damaged(
     text: &mut [u8],
     at: usize,
+    state: LineState,
     sent: &[u8],
     octets: &mut [u8],
     bytes: &mut [u8],
@@ -207,6 +213,7 @@ fn add_damaged(
         text,
         at,
         b"The same, but the third octet comes in as 80 (Ucode 127, which is in no mask):\n ",
+        state,
         octets,
         bytes,
         marks,
@@ -214,8 +221,9 @@ fn add_damaged(
     add_doubt(text, at, sent, bytes, marks[0])
 }
 
-// Adds 63 one bits, sent and received, and received again with one octet damaged.
-fn add_run(text: &mut [u8], at: usize) -> usize
+// Adds 63 one bits, sent from the line state that was left and received from the one that was found, and received again with one octet
+// damaged.
+fn add_run(text: &mut [u8], at: usize, left: LineState, found: LineState) -> usize
     requires { ⌜ at ≤ length (now text) ⌝ }
     ensures { λ end. ⌜ end ≤ length (now (text .entry)) ⌝ }
 {
@@ -227,16 +235,62 @@ fn add_run(text: &mut [u8], at: usize) -> usize
         3,
         false,
         0,
-        fresh_state(),
+        left,
         &sent,
         &mut octets,
     );
     let mut bytes = [0u8; 8];
     let mut marks = [0u8; 3];
-    let at = add_good(text, at, &octets, &sent, &mut bytes, &mut marks);
+    let at = add_good(text, at, found, &octets, &sent, &mut bytes, &mut marks);
     let mut bytes = [0u8; 8];
     let mut marks = [0u8; 3];
-    add_damaged(text, at, &sent, &mut octets, &mut bytes, &mut marks)
+    add_damaged(text, at, found, &sent, &mut octets, &mut bytes, &mut marks)
+}
+
+// Adds 24 octets, six a group.
+fn add_groups(text: &mut [u8], at: usize, octets: &[u8]) -> usize
+    requires { ⌜ (at ≤ length (now text)) × (length (now octets) ≡ 24) ⌝ }
+    ensures { λ end. ⌜ end ≤ length (now (text .entry)) ⌝ }
+{
+    let at = add_hex(text, at, &octets[0..6]);
+    let at = add_hex(text, at, &octets[6..12]);
+    let at = add_hex(text, at, &octets[12..18]);
+    add_hex(text, at, &octets[18..24])
+}
+
+// Adds the last 24 octets of the CP and E_s, and the line state found from them.
+fn add_start(text: &mut [u8], at: usize, octets: &[u8], found: LineState) -> usize
+    requires { ⌜ (at ≤ length (now text)) × (length (now octets) ≡ 306) ⌝ }
+    ensures { λ end. ⌜ end ≤ length (now (text .entry)) ⌝ }
+{
+    let at = add_numbers(
+        text,
+        at,
+        b"Its bits and the twelve zero bits of E_s, sent in # octets, mu-law; the last 24 of them:\n ",
+        306,
+        0,
+        0,
+    );
+    let at = add_groups(text, at, &octets[282..306]);
+    add_numbers(
+        text,
+        at,
+        b"\nThe line state that the receiver finds from these: history #, last sign #\n",
+        found.history as u64,
+        found.sign as u64,
+        0,
+    )
+}
+
+// Adds the CP and E_s as they are sent and heard, and the frames after them.
+fn add_line(text: &mut [u8], at: usize, octets: &mut [u8]) -> usize
+    requires { ⌜ (at ≤ length (now text)) × (length (now octets) ≡ 306) ⌝ }
+    ensures { λ end. ⌜ end ≤ length (now (text .entry)) ⌝ }
+{
+    let sent = start::send_cp(example_record(), Law::Mu, fresh_state(), octets);
+    let heard = start::find_state(octets, fresh_state());
+    let at = add_start(text, at, octets, heard.state);
+    add_run(text, at, sent.state, heard.state)
 }
 
 // Adds the example.
@@ -245,5 +299,6 @@ pub fn add_example(text: &mut [u8], at: usize) -> usize
     ensures { λ end. ⌜ end ≤ length (now (text .entry)) ⌝ }
 {
     let at = add_cp(text, at);
-    add_run(text, at)
+    let mut octets = [0u8; 306];
+    add_line(text, at, &mut octets)
 }

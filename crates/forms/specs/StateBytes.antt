@@ -24,6 +24,13 @@ stateLength = 21
 unfoldable pub stateBytes : LineState → List ℕ
 stateBytes st = listFrom (stateByte st) 0 stateLength
 
+-- the history and the last sign, which are its first bytes
+abbrev pub lineLength : ℕ
+lineLength = 5
+
+unfoldable pub lineBytes : LineState → List ℕ
+lineBytes st = listFrom (stateByte st) 0 lineLength
+
 -- byte i of the sequence's bits
 abbrev pub sequenceByte : List ℕ → ℕ → ℕ
 sequenceByte s i = getD s (8 + i) 0

@@ -14,7 +14,7 @@ ghost use Rattle.standard.specs.Calls.{over};
 ghost use Rattle.standard.specs.Refusals.{refusalAnswer, outcomeAnswer};
 ghost use Rattle.forms.specs.Coded.{coded};
 ghost use Rattle.forms.specs.RecordBytes.{recordLength, recordByte, recordBytes, indexAt, halfAt, recordAt};
-ghost use Rattle.forms.specs.StateBytes.{stateLength, stateByte, stateBytes, sequenceByte, stateAt};
+ghost use Rattle.forms.specs.StateBytes.{stateLength, stateByte, stateBytes, lineBytes, sequenceByte, stateAt};
 ghost use Rattle.forms.specs.PlanBytes.{planLength, planBytes};
 ghost use Rattle.forms.specs.HeardBytes.{saidKind, saidBits, heardLength, heardBytes};
 
@@ -23,6 +23,9 @@ pub const RECORD_BYTES: usize = 105;
 
 // The bytes of a line state.
 pub const STATE_BYTES: usize = 21;
+
+// The bytes of its history and last sign, which stand first.
+const LINE_BYTES: usize = 5;
 
 // The bytes of a plan.
 pub const PLAN_BYTES: usize = 24;
@@ -197,16 +200,32 @@ fn state_byte(s: LineState, k: usize) -> u8
     s.lost as u8
 }
 
+// Puts the first `count` bytes of a line state; the others stay.
+fn put_state(s: LineState, count: usize, bytes: &mut [u8])
+    requires { ⌜ (count ≤ stateLength) × (count ≤ length (now bytes)) ⌝ }
+    ensures { λ x. ⌜ now (bytes .exit) ≡ over (listFrom (stateByte s) 0 count) (now (bytes .entry)) ⌝ }
+{
+    let mut k = 0;
+    while k < count {
+        bytes[k] = state_byte(s, k);
+        k += 1;
+    }
+}
+
 // Puts a line state into the first 21 bytes; the others stay.
 pub fn state_into(s: LineState, bytes: &mut [u8])
     requires { ⌜ stateLength ≤ length (now bytes) ⌝ }
     ensures { λ x. ⌜ now (bytes .exit) ≡ over (stateBytes s) (now (bytes .entry)) ⌝ }
 {
-    let mut k = 0;
-    while k < STATE_BYTES {
-        bytes[k] = state_byte(s, k);
-        k += 1;
-    }
+    put_state(s, STATE_BYTES, bytes);
+}
+
+// Puts the history and the last sign of a line state into the first 5 bytes; the others stay.
+pub fn line_into(s: LineState, bytes: &mut [u8])
+    requires { ⌜ stateLength ≤ length (now bytes) ⌝ }
+    ensures { λ x. ⌜ now (bytes .exit) ≡ over (lineBytes s) (now (bytes .entry)) ⌝ }
+{
+    put_state(s, LINE_BYTES, bytes);
 }
 
 // Puts the mask and its sum into the first 24 bytes; the others stay.

@@ -24,7 +24,7 @@ use Rattle.standard.specs.Frame.{fresh, isControl, nextPlace, width, dataBits, 
 use Rattle.standard.specs.Frame.{sendFrame, sendNext, Incoming, saidIn, receiveNext, outgoingFrames, sendAfter, receiveAfter}
 use Rattle.standard.specs.Refusals.{indexTooLarge, drnTooLarge, grantedBelowFullRate, intervalEmpty, productTooSmall, maskAboveIndices}
 use Rattle.standard.specs.Refusals.{framesAtCleardown, historyTooLarge, doubtfulTooLarge, placeTooLarge, tooManyFrames, shorter, emptyTest}
-use Rattle.standard.specs.Refusals.{emptyTests, rateTests, recordTests, lineTests, bufferTests, frameTests}
+use Rattle.standard.specs.Refusals.{emptyTests, rateTests, recordTests, stateTests, lineTests, bufferTests, frameTests}
 use Rattle.standard.specs.Calls.{accepted, SendCall, sendRefusal, sendBits, sendLeft, ReceiveCall, receiveRefusal, receiveOctets}
 use Rattle.standard.specs.Calls.{receiveLeft}
 use Rattle.standard.specs.declared.Law.{Law}
@@ -87,7 +87,7 @@ no-fault = none-first (recordTests common) (record-numbered common) refl
 
 accepts : (st : LineState) (n : ℕ) (a b : Bool) → Ready st → n ≤ 1024 → a ≡ false → b ≡ false
     → accepted (first (frameTests common st n a b)) ≡ true
-unfolding frameTests lineTests bufferTests framesAtCleardown historyTooLarge doubtfulTooLarge placeTooLarge tooManyFrames
+unfolding frameTests lineTests stateTests bufferTests framesAtCleardown historyTooLarge doubtfulTooLarge placeTooLarge tooManyFrames
 accepts st n a b k h e f =
     ap accepted
     (first-none (frameTests common st n a b)

@@ -27,7 +27,7 @@ use Rattle.standard.specs.Frame.{receiveFrame, sequenceSoFar, lostSoFar, doubtf
 use Rattle.standard.specs.Frame.{incomingFrames, receiveFrames, receiveMarks, receiveAfter}
 use Rattle.standard.specs.Refusals.{indexTooLarge, drnTooLarge, grantedBelowFullRate, intervalEmpty, productTooSmall, maskAboveIndices}
 use Rattle.standard.specs.Refusals.{framesAtCleardown, historyTooLarge, doubtfulTooLarge, placeTooLarge, tooManyFrames, emptyTest}
-use Rattle.standard.specs.Refusals.{emptyTests, rateTests, recordTests, lineTests, bufferTests, frameTests}
+use Rattle.standard.specs.Refusals.{emptyTests, rateTests, recordTests, stateTests, lineTests, bufferTests, frameTests}
 use Rattle.standard.specs.Calls.{SendCall, sendRefusal, sendBits, sendLeft, sendOctets, ReceiveCall, receiveRefusal, receiveOctets}
 use Rattle.standard.specs.Calls.{receiveLeft, receiveBytes, receiveMarked}
 use Rattle.standard.specs.declared.Law.the-variants.{Mu, A}
@@ -78,7 +78,7 @@ unfolding listFrom any largest parts joined each after first bitAt bitsIn field 
     lineBits frameSigns frameLabels frameOctets sendFrame sendNext receivedNumber outsideTest outsideTests markTests mark heardBits
     heardControl heardData receiveFrame sequenceSoFar lostSoFar doubtfulAfter receiveNext outgoingFrames sendFrames sendAfter incomingFrames
     receiveFrames receiveMarks receiveAfter indexTooLarge drnTooLarge grantedBelowFullRate intervalEmpty productTooSmall maskAboveIndices
-    framesAtCleardown historyTooLarge doubtfulTooLarge placeTooLarge tooManyFrames emptyTest emptyTests rateTests recordTests lineTests
+    framesAtCleardown historyTooLarge doubtfulTooLarge placeTooLarge tooManyFrames emptyTest emptyTests rateTests recordTests stateTests lineTests
     bufferTests frameTests sendRefusal sendBits sendLeft sendOctets receiveRefusal receiveOctets receiveLeft receiveBytes receiveMarked
     overCalls AllCalls sent octetsRead marksGiven sendChoices receiveChoices SendsWith ReceivesWith Carried
 instance = (

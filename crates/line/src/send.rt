@@ -19,7 +19,6 @@ use standard::Record;
 use std::num::wrapping_add_u64;
 use streams::bits_in;
 use streams::cut_into;
-use streams::fresh_state;
 ghost use mathlib.Core.Path.{_≡_};
 ghost use Prim.Native.Nat.{_+_, _*_, _<_, _≤_};
 ghost use lib.ListN.{length};
@@ -240,13 +239,21 @@ fn send_some(
     send_read(e, r, law, channel, shows, s, place, count, bytes)
 }
 
-// Sends call after call until the input ends. A proved loop has to end, so this one counts down from a number that no run uses up.
-fn send_all(e: Ends, r: Record, law: Law, channel: Channel, shows: bool, bytes: &mut [u8]) -> Stream
+// Sends call after call from a line state on until the input ends. A proved loop has to end, so this one counts down from a number that no run uses up.
+fn send_all(
+    e: Ends,
+    r: Record,
+    law: Law,
+    channel: Channel,
+    state: LineState,
+    shows: bool,
+    bytes: &mut [u8],
+) -> Stream
     requires { ⌜ (r .drn ≤ 28) × (length (now bytes) ≡ 6144) ⌝ }
     ensures { λ x. ⌜ x .left < 48 ⌝ }
 {
     let mut s = Stream {
-        state: fresh_state(),
+        state,
         frames: 0,
         left: 0,
         meter: begun(),
@@ -321,16 +328,24 @@ fn stopped(frames: u64, trouble: Trouble) -> Sent
     }
 }
 
-// Sends the input to the output, frame after frame; whole frames alone, or a last one that is filled with zero bits. No record that was
-// read has a drn above 28.
-pub fn send_stream(e: Ends, r: Record, law: Law, channel: Channel, exact: bool, shows: bool) -> Sent
+// Sends the input to the output, frame after frame from a line state on; whole frames alone, or a last one that is filled with zero bits.
+// No record that was read has a drn above 28.
+pub fn send_stream(
+    e: Ends,
+    r: Record,
+    law: Law,
+    channel: Channel,
+    state: LineState,
+    exact: bool,
+    shows: bool,
+) -> Sent
     ensures { λ x. ⌜ (x .left < 48) × (x .padding < 48) ⌝ }
 {
     if 28 < r.drn {
         return stopped(0, Trouble::Refused(9));
     }
     let mut bytes = [0u8; 6144];
-    let s = send_all(e, r, law, channel, shows, &mut bytes);
+    let s = send_all(e, r, law, channel, state, shows, &mut bytes);
     closed(e, s.meter);
     let trouble = s.trouble;
     if is_over(trouble) {

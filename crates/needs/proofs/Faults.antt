@@ -6,7 +6,7 @@ use native.Mathlib.Omega.{arith}
 use borrow.Author.Tests.{ltb-false}
 use Rattle.standard.specs.First.{Answer, Test, first}
 use Rattle.standard.specs.Refusals.{refusalAnswer, outcomeAnswer, drnTooLarge, placeTooLarge, tooManyFrames, rateTests, recordTests}
-use Rattle.standard.specs.Refusals.{lineTests}
+use Rattle.standard.specs.Refusals.{stateTests, lineTests}
 use Rattle.standard.specs.declared.LineState.{LineState}
 use Rattle.standard.specs.declared.Outcome.{Outcome}
 use Rattle.standard.specs.declared.Outcome.the-variants.{Done, Refused}
@@ -28,11 +28,11 @@ module _ (r : Record) (st : LineState) (n : ℕ) (o : Outcome) (q : o ≡ Done)
   rate-passed = ltb-false 28 (r .drn) (none .1 .0)
 
   pub frames-passed : n ≤ 1024
-  unfolding lineTests tooManyFrames
+  unfolding lineTests stateTests tooManyFrames
   frames-passed = ltb-false 1024 n (none-split (recordTests r) (lineTests r st n) none .1 .1 .1 .1 .1 .0)
 
   pub place-passed : st .place < 64
-  unfolding lineTests placeTooLarge
+  unfolding lineTests stateTests placeTooLarge
   place-passed =
       let small = ltb-false 63 (st .place) (or-none _ _ (none-split (recordTests r) (lineTests r st n) none .1 .1 .1 .1 .0) .0) in
       omega arith

@@ -1,4 +1,4 @@
-// What a call of the sender or of the receiver is refused for, and what it needs of its buffers.
+// What a call with a line state is refused for, and what a call of the sender or of the receiver needs of its buffers.
 use standard::LineState;
 use standard::Outcome;
 use standard::Record;
@@ -10,7 +10,7 @@ ghost use mathlib.Core.List.{_++_};
 ghost use Rattle.standard.specs.First.{first};
 ghost use Rattle.standard.specs.Bits.{bytesFor};
 ghost use Rattle.standard.specs.Frame.{callBits};
-ghost use Rattle.standard.specs.Refusals.{outcomeAnswer, recordTests, lineTests, bufferTests};
+ghost use Rattle.standard.specs.Refusals.{outcomeAnswer, recordTests, stateTests, lineTests, bufferTests};
 ghost use Rattle.needs.specs.Stages.{NeededBy, firstOf};
 
 // How many of so many frames are control frames, from a frame place on.
@@ -33,13 +33,10 @@ fn data_bytes(r: Record, control: bool, place: u8, frames: usize) -> usize
     (frames * constellation::d_of(r) - fewer + 7) / 8
 }
 
-// Refusals 13, 14, 18, 19 and 15.
-fn line_fault(r: Record, state: LineState, frames: usize) -> Outcome
-    ensures { λ x. ⌜ outcomeAnswer x ≡ first (lineTests r state frames) ⌝ }
+// Refusals 14, 18 and 19.
+pub fn state_fault(state: LineState) -> Outcome
+    ensures { λ x. ⌜ outcomeAnswer x ≡ first (stateTests state) ⌝ }
 {
-    if (1 <= frames) & (r.drn == 0) {
-        return Outcome::Refused(Refusal::FramesAtCleardown);
-    }
     if 0x80_0000 <= state.history {
         return Outcome::Refused(Refusal::HistoryTooLarge);
     }
@@ -48,6 +45,20 @@ fn line_fault(r: Record, state: LineState, frames: usize) -> Outcome
     }
     if (63 < state.place) | (15 < state.done) {
         return Outcome::Refused(Refusal::PlaceTooLarge);
+    }
+    Outcome::Done
+}
+
+// Refusals 13, 14, 18, 19 and 15.
+fn line_fault(r: Record, state: LineState, frames: usize) -> Outcome
+    ensures { λ x. ⌜ outcomeAnswer x ≡ first (lineTests r state frames) ⌝ }
+{
+    if (1 <= frames) & (r.drn == 0) {
+        return Outcome::Refused(Refusal::FramesAtCleardown);
+    }
+    let fault = state_fault(state);
+    if let Outcome::Refused(_) = fault {
+        return fault;
     }
     if 1024 < frames {
         return Outcome::Refused(Refusal::TooManyFrames);

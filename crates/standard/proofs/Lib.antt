@@ -14,6 +14,7 @@ pub mod Dil
 pub mod Plan
 pub mod Control
 pub mod Frame
+pub mod Start
 pub mod Stages
 pub mod Refusals
 pub mod Calls

@@ -19,8 +19,8 @@ use Rattle.standard.specs.Constellation.{size, sizes}
 use Rattle.standard.specs.Modulus.{product}
 use Rattle.standard.specs.Refusals.{indexTooLarge, drnTooLarge, grantedBelowFullRate, intervalEmpty, productTooSmall}
 use Rattle.standard.specs.Refusals.{maskAboveIndices, framesAtCleardown, historyTooLarge, doubtfulTooLarge, placeTooLarge}
-use Rattle.standard.specs.Refusals.{tooManyFrames, emptyTest, emptyTests, rateTests, recordTests, readTests, writeTests, lineTests}
-use Rattle.standard.specs.Refusals.{bufferTests, frameTests, planTests}
+use Rattle.standard.specs.Refusals.{tooManyFrames, emptyTest, emptyTests, rateTests, recordTests, readTests, writeTests, stateTests}
+use Rattle.standard.specs.Refusals.{lineTests, bufferTests, frameTests, sendCpTests, planTests}
 use Rattle.standard.specs.Calls.{accepted}
 use Rattle.standard.specs.declared.Law.{Law}
 use Rattle.standard.specs.declared.LineState.{LineState}
@@ -119,8 +119,16 @@ module _ (r : Record) where
   write-numbered writeShort = tt
 
   pub line-numbered : (st : LineState) (n : ℕ) → T (numbered (recordTests r ++ lineTests r st n))
-  unfolding lineTests recordTests rateTests emptyTests emptyTest listFrom
+  unfolding lineTests stateTests recordTests rateTests emptyTests emptyTest listFrom
   line-numbered st n = tt
+
+pub state-numbered : (st : LineState) → T (numbered (stateTests st))
+unfolding stateTests
+state-numbered st = tt
+
+pub send-cp-numbered : (r : Record) (st : LineState) (writeShort : Bool) → T (numbered (sendCpTests r st writeShort))
+unfolding sendCpTests stateTests recordTests rateTests emptyTests emptyTest listFrom
+send-cp-numbered r st writeShort = tt
 
 pub read-numbered : (s : List ℕ) (n : ℕ) → T (numbered (readTests s n))
 unfolding readTests rateTests emptyTests emptyTest listFrom
@@ -156,7 +164,7 @@ pub record Passed (r : Record) (st : LineState) (n : ℕ) (readShort writeShort 
 
 pub passed : (r : Record) (st : LineState) (n : ℕ) (readShort writeShort : Bool)
     → accepted (first (frameTests r st n readShort writeShort)) ≡ true → Passed r st n readShort writeShort
-unfolding frameTests lineTests bufferTests recordTests rateTests emptyTests emptyTest listFrom
+unfolding frameTests lineTests stateTests bufferTests recordTests rateTests emptyTests emptyTest listFrom
 passed r st n readShort writeShort e =
     let at = not-applied (frameTests r st n readShort writeShort) tt
     (eqb-true (first (frameTests r st n readShort writeShort) .number) 0 e) in
@@ -178,14 +186,14 @@ passed r st n readShort writeShort e =
 -- A.1: a call in a state whose count is 24 at most does not get 18
 pub not-eighteen : (r : Record) (st : LineState) (n : ℕ) (readShort writeShort : Bool) → st .doubtful ≤ 24
     → first (frameTests r st n readShort writeShort) .number ≡ 18 → ⊥
-unfolding frameTests lineTests bufferTests recordTests rateTests emptyTests emptyTest listFrom doubtfulTooLarge
+unfolding frameTests lineTests stateTests bufferTests recordTests rateTests emptyTests emptyTest listFrom doubtfulTooLarge
 not-eighteen r st n readShort writeShort h =
     first-says 18 (frameTests r st n readShort writeShort) (lit< tt) (rw (le-ltb 24 (st .doubtful) h) refl)
 
 -- A.2: one in a state whose places are 63 and 15 at most does not get 19
 pub not-nineteen : (r : Record) (st : LineState) (n : ℕ) (readShort writeShort : Bool) → st .place ≤ 63 → st .done ≤ 15
     → first (frameTests r st n readShort writeShort) .number ≡ 19 → ⊥
-unfolding frameTests lineTests bufferTests recordTests rateTests emptyTests emptyTest listFrom placeTooLarge
+unfolding frameTests lineTests stateTests bufferTests recordTests rateTests emptyTests emptyTest listFrom placeTooLarge
 not-nineteen r st n readShort writeShort p d =
     first-says 19 (frameTests r st n readShort writeShort) (lit< tt) (rw (le-ltb 63 (st .place) p, le-ltb 15 (st .done) d) refl)
 

@@ -1,7 +1,7 @@
 -- Bits of numbers as code tests and sets them, and a number that grows by a bit at the top. Assumes nothing.
 use mathlib.Core.Path.{_≡_, refl, sym, ap, ap₂, _∙_}
 use Prim.Native.Nat.{ℕ, zero, suc, _+_, _*_, _/_, _%_, _^_, _≤_, _<_}
-use mathlib.Core.Bool.{Bool, true, false, not, true≢false}
+use mathlib.Core.Bool.{Bool, true, false, not, true≢false, Bool·beq}
 use mathlib.Core.List.{List, [], _∷_, _++_}
 use native.Mathlib.Nat.{not-suc-le-zero, div-one, zero-div, pow-suc, pow-succ', one-mul, mul-comm, mul-assoc}
 use native.Mathlib.Numerals.{one-add}
@@ -12,7 +12,7 @@ use lib.Dec.{eqb}
 use lib.ListN.{length, getD, take, drop, replicate, length-append}
 use lib.Pow.{shl-exact, shr-shr}
 use mir.Val.{boolByte}
-use Rattle.standard.specs.Bits.{weight, positive, odd, bit, nth, numberOf, bitsOf}
+use Rattle.standard.specs.Bits.{_⊕_, weight, positive, odd, bit, nth, numberOf, bitsOf}
 use Rattle.standard.proofs.Bits.{weight-lt, weight-odd, bit-suc, numberOf-lt, bits-back}
 
 -- ---- bits as code has them
@@ -20,6 +20,12 @@ use Rattle.standard.proofs.Bits.{weight-lt, weight-odd, bit-suc, number
 pub byte-weight : (b : Bool) → boolByte b ≡ weight b
 byte-weight true = refl
 byte-weight false = refl
+
+pub xor-test : (a b : Bool) → not (Bool·beq a b) ≡ a ⊕ b
+xor-test true true = refl
+xor-test true false = refl
+xor-test false true = refl
+xor-test false false = refl
 
 pub odd-test : (n : ℕ) → eqb (n % 2) 1 ≡ odd n
 odd-test n = go (n % 2) (omega arith)

@@ -1,4 +1,4 @@
--- The seven entries: a call of each as what is lent, the refusal's number (0 for none) with its value, and what is left: 'A refusal
+-- The nine entries: a call of each as what is lent, the refusal's number (0 for none) with its value, and what is left: 'A refusal
 -- carries its number, and buffers and state are unchanged.' Assumes nothing.
 use Prim.Native.Nat.{ℕ, _*_, _-_}
 use mathlib.Core.Bool.{Bool, false, cond, _&&_, _||_}
@@ -15,7 +15,8 @@ use Rattle.standard.specs.Octets.{sampleOf}
 use Rattle.standard.specs.Dil.{defaultDil}
 use Rattle.standard.specs.Plan.{pointsFor, sumOf, lowestMask}
 use Rattle.standard.specs.Frame.{callBits, sendFrames, sendAfter, receiveFrames, receiveMarks, receiveAfter, receiveSaid}
-use Rattle.standard.specs.Refusals.{shorter, readTests, writeTests, frameTests, planTests}
+use Rattle.standard.specs.Start.{cpAndEnd, octetsFor, leftBy, foundFrom, foundIn}
+use Rattle.standard.specs.Refusals.{shorter, readTests, writeTests, frameTests, sendCpTests, planTests}
 use Rattle.standard.specs.declared.Law.{Law}
 use Rattle.standard.specs.declared.LineState.{LineState}
 use Rattle.standard.specs.declared.Record.{Record}
@@ -181,6 +182,42 @@ dilRefusal c = first (test 17 (shorter (c .octets) (length (defaultDil (c .law))
 -- 'The sender writes the whole sequence in either law'
 unfoldable pub dilOctets : DilCall → List ℕ
 dilOctets c = cond (accepted (dilRefusal c)) (over (defaultDil (c .law)) (c .octets)) (c .octets)
+
+-- ---- CP and E_s
+
+-- 'It starts from a law and a line state handed in'
+pub record CpCall : Type 0 where
+  pub cp : Record
+  pub law : Law
+  pub octets : List ℕ
+
+abbrev pub cpCall : Record → Law → List ℕ → CpCall
+cpCall r l os = record { cp = r; law = l; octets = os }
+
+unfoldable pub sendCpRefusal : LineState → CpCall → Answer
+sendCpRefusal st c = first (sendCpTests (c .cp) st (shorter (c .octets) (length (cpAndEnd (c .cp)))))
+
+-- how many octets it wrote
+unfoldable pub sendCpCount : LineState → CpCall → ℕ
+sendCpCount st c = cond (accepted (sendCpRefusal st c)) (length (cpAndEnd (c .cp))) 0
+
+-- 'It writes the octets'
+unfoldable pub sendCpOctets : LineState → CpCall → List ℕ
+sendCpOctets st c =
+    cond (accepted (sendCpRefusal st c)) (over (octetsFor (c .law) st (cpAndEnd (c .cp))) (c .octets)) (c .octets)
+
+-- 'and returns the state left'
+unfoldable pub sendCpLeft : LineState → CpCall → LineState
+sendCpLeft st c = cond (accepted (sendCpRefusal st c)) (leftBy st (cpAndEnd (c .cp))) st
+
+-- ---- the line state found from octets
+
+-- fewer than 24 are a buffer to be read that is shorter than needed
+unfoldable pub findRefusal : List ℕ → Answer
+findRefusal os = first (test 16 (shorter os foundFrom) ∷ [])
+
+unfoldable pub findLeft : LineState → List ℕ → LineState
+findLeft st os = cond (accepted (findRefusal os)) (foundIn st os) st
 
 -- ---- the planner
 

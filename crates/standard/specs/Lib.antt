@@ -13,5 +13,6 @@ pub mod Dil
 pub mod Plan
 pub mod Control
 pub mod Frame
+pub mod Start
 pub mod Refusals
 pub mod Calls

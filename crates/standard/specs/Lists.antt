@@ -1,8 +1,8 @@
 -- Counting and lists: what the papers take for granted. Assumes nothing.
-use Prim.Native.Nat.{ℕ, zero, suc, _+_, max}
+use Prim.Native.Nat.{ℕ, zero, suc, _+_, _-_, max}
 use mathlib.Core.Bool.{Bool, false, cond, _||_}
 use mathlib.Core.List.{List, [], _∷_, _++_}
-use lib.ListN.{take, drop}
+use lib.ListN.{length, take, drop}
 
 -- f i, f (i + 1) and so on, n of them
 unfoldable pub listFrom : {X : Type 0} → (ℕ → X) → ℕ → ℕ → List X
@@ -38,6 +38,10 @@ parts k (suc n) xs = take k xs ∷ parts k n (drop k xs)
 unfoldable pub lastOr : {X : Type 0} → X → List X → X
 lastOr x [] = x
 lastOr x (y ∷ ys) = lastOr y ys
+
+-- the last n of a list
+unfoldable pub lastOf : {X : Type 0} → ℕ → List X → List X
+lastOf n xs = drop (length xs - n) xs
 
 -- lists end to end
 unfoldable pub joined : {X : Type 0} → List (List X) → List X

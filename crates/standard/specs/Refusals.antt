@@ -1,5 +1,5 @@
--- Document 01, 'When the codec declines', and document 02, A.1, A.2, A.8 and A.10: the tests 1 to 19 and 25 to 28, each under a name, and
--- the lists of them in the papers' order. Assumes nothing.
+-- Document 01, 'When the codec declines', and document 02, A.1, A.2, A.3, A.8 and A.10: the tests 1 to 19 and 25 to 28, each under a name,
+-- and the lists of them in the papers' order. Assumes nothing.
 use Prim.Native.Nat.{ℕ, _+_, _*_, _-_, _^_}
 use mathlib.Core.Bool.{Bool, not, _&&_, _||_}
 use mathlib.Core.List.{List, [], _∷_, _++_}
@@ -178,15 +178,13 @@ readTests s n =
 unfoldable pub writeTests : Record → Bool → List Test
 writeTests r writeShort = recordTests r ++ (test 17 writeShort ∷ [])
 
--- 13, 14, 18 'checked after 14', 19 'checked after 18', and 15
+-- a fault in the line state: 14, 18 'checked after 14', and 19 'checked after 18'
+unfoldable pub stateTests : LineState → List Test
+stateTests st = test 14 (historyTooLarge st) ∷ test 18 (doubtfulTooLarge st) ∷ test 19 (placeTooLarge st) ∷ []
+
+-- 13, those of the line state, and 15
 unfoldable pub lineTests : Record → LineState → ℕ → List Test
-lineTests r st n =
-    test 13 (framesAtCleardown r n) ∷
-    test 14 (historyTooLarge st) ∷
-    test 18 (doubtfulTooLarge st) ∷
-    test 19 (placeTooLarge st) ∷
-    test 15 (tooManyFrames n) ∷
-    []
+lineTests r st n = test 13 (framesAtCleardown r n) ∷ (stateTests st ++ (test 15 (tooManyFrames n) ∷ []))
 
 -- 16 and 17: readShort is the test of the buffer to be read, writeShort that of the buffers to be written
 unfoldable pub bufferTests : Bool → Bool → List Test
@@ -195,6 +193,10 @@ bufferTests readShort writeShort = test 16 readShort ∷ test 17 writeShort ∷ 
 -- 'sender and receiver 4 and 9 to 17', 18, 19 and 25
 unfoldable pub frameTests : Record → LineState → ℕ → Bool → Bool → List Test
 frameTests r st n readShort writeShort = (recordTests r ++ lineTests r st n) ++ bufferTests readShort writeShort
+
+-- A.3: 'declines as the writer does, with 14, 18 and 19 before 17'
+unfoldable pub sendCpTests : Record → LineState → Bool → List Test
+sendCpTests r st writeShort = recordTests r ++ (stateTests st ++ (test 17 writeShort ∷ []))
 
 -- 'Turned away: 26 ..; 27 ..; 28 ..'
 unfoldable pub planTests : ℕ → Law → ℕ → ℕ → List Test

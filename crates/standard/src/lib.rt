@@ -94,6 +94,19 @@ pub struct FramesRead {
     pub said: Said,
 }
 
+// The answer of the sender of a CP and E_s, with the line state left. The octet count is 0 where the outcome is a refusal.
+pub struct CpSent {
+    pub outcome: Outcome,
+    pub octet_count: usize,
+    pub state: LineState,
+}
+
+// The line state found from octets.
+pub struct StateFound {
+    pub outcome: Outcome,
+    pub state: LineState,
+}
+
 // The answer of the planner: M, the mask's halves and its sum of squared linear values. They are 0 where the outcome is a refusal.
 pub struct Planned {
     pub outcome: Outcome,

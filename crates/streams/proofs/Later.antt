@@ -1,12 +1,13 @@
 -- Laws of bit strings that begin later, and of how two bit strings differ. Assumes nothing.
 use mathlib.Core.Path.{_≡_, refl, ap, _∙_}
 use Prim.Native.Nat.{ℕ, _+_, _≤_}
-use mathlib.Core.Bool.{Bool, true, false, not, Bool·beq}
+use mathlib.Core.Bool.{Bool, not, Bool·beq}
 use native.Mathlib.Numerals.{add-one}
 use native.Mathlib.Omega.{arith}
 use mir.Val.{boolByte}
 use Rattle.standard.specs.Bits.{_⊕_, weight, field}
 use Rattle.standard.proofs.Bits.{field-ext, weight-lt}
+use Rattle.standard.proofs.Words.{byte-weight, xor-test}
 use Rattle.streams.specs.Later.{later, differing}
 
 -- a field of a bit string that begins later
@@ -16,10 +17,7 @@ field-later f at p q k e h = e ∙ field-ext f (later at f) p q k (λ j l. let s
 
 -- XOR of two bits, as code has it
 xor-byte : (a b : Bool) → boolByte (not (Bool·beq a b)) ≡ weight (a ⊕ b)
-xor-byte true true = refl
-xor-byte true false = refl
-xor-byte false true = refl
-xor-byte false false = refl
+xor-byte a b = byte-weight (not (Bool·beq a b)) ∙ ap weight (xor-test a b)
 
 -- n of the k bits from bit p on are not the same
 pub record Counted (f g : ℕ → Bool) (p n k : ℕ) : Type 0 where

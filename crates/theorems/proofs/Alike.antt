@@ -17,7 +17,7 @@ use Rattle.standard.specs.Frame.{isControl, nextPlace, width, callBits, control
 use Rattle.standard.specs.Frame.{controlBits, lineBits, frameSigns, frameOctets, sendFrame, sendNext, good, heardBits, Incoming}
 use Rattle.standard.specs.Frame.{heardControl, heardData, receiveFrame, sequenceSoFar, lostSoFar, saidIn, receiveNext, outgoingFrames}
 use Rattle.standard.specs.Frame.{sendFrames, sendAfter, incomingFrames, receiveFrames, receiveAfter, receiveSaid}
-use Rattle.standard.specs.Refusals.{historyTooLarge, doubtfulTooLarge, placeTooLarge, lineTests, shorter, frameTests}
+use Rattle.standard.specs.Refusals.{historyTooLarge, doubtfulTooLarge, placeTooLarge, stateTests, lineTests, shorter, frameTests}
 use Rattle.standard.specs.Calls.{accepted, over, SendCall, sendRefusal, sendBits, sendLeft, sendOctets, ReceiveCall, receiveCount}
 use Rattle.standard.specs.Calls.{receiveRefusal, receiveOctets, receiveLeft, receiveBytes, receiveMarked, receiveSays}
 use Rattle.standard.specs.declared.Law.{Law}
@@ -69,7 +69,7 @@ module _ (s t : LineState) (p : Alike s t) where
 
   same-tests : (r : Record) (n : ℕ) (readShort writeShort : Bool) → frameTests r s n readShort writeShort ≡ frameTests r t n readShort
       writeShort
-  unfolding frameTests lineTests
+  unfolding frameTests lineTests stateTests
   same-tests r n readShort writeShort = let h = same-history in let d = same-count in let q = same-places in cc
 
   same-control : (on : Bool) → controls s on ≡ controls t on

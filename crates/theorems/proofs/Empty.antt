@@ -13,7 +13,7 @@ use Rattle.standard.specs.Record.{inMask}
 use Rattle.standard.specs.Cp.{recordIn}
 use Rattle.standard.specs.Constellation.{sizeOf, member}
 use Rattle.standard.specs.Refusals.{indexTooLarge, grantedBelowFullRate, intervalEmpty, productTooSmall, maskAboveIndices, emptyTest}
-use Rattle.standard.specs.Refusals.{emptyTests, rateTests, recordTests, readTests, writeTests, lineTests, bufferTests, frameTests}
+use Rattle.standard.specs.Refusals.{emptyTests, rateTests, recordTests, readTests, writeTests, stateTests, lineTests, bufferTests, frameTests}
 use Rattle.standard.specs.declared.LineState.{LineState}
 use Rattle.standard.specs.declared.Record.{Record}
 use Rattle.standard.proofs.Refusals.{empty-too-small, empty-lowest}
@@ -69,7 +69,7 @@ unfolding writeTests recordTests rateTests emptyTests emptyTest without listFrom
 writes r writeShort = record-kept r (test 17 writeShort ∷ [])
 
 frames-kept : (r : Record) (st : LineState) (n : ℕ) (readShort writeShort : Bool) → InPlaceOf11 (frameTests r st n readShort writeShort)
-unfolding frameTests lineTests bufferTests recordTests rateTests emptyTests emptyTest without listFrom
+unfolding frameTests lineTests stateTests bufferTests recordTests rateTests emptyTests emptyTest without listFrom
 frames-kept r st n readShort writeShort = record-kept r (lineTests r st n ++ bufferTests readShort writeShort)
 
 pub empty-told : EmptyTold

@@ -23,7 +23,7 @@ use Rattle.standard.specs.Frame.{receivedNumber, outsideTest, outsideTests, mar
 use Rattle.standard.specs.Frame.{sequenceSoFar, lostSoFar, saidIn, receiveNext, outgoingFrames, sendFrames, sendAfter, incomingFrames}
 use Rattle.standard.specs.Refusals.{indexTooLarge, drnTooLarge, grantedBelowFullRate, intervalEmpty, productTooSmall, maskAboveIndices}
 use Rattle.standard.specs.Refusals.{framesAtCleardown, historyTooLarge, doubtfulTooLarge, placeTooLarge, tooManyFrames, emptyTest}
-use Rattle.standard.specs.Refusals.{emptyTests, rateTests, recordTests, lineTests, bufferTests, frameTests}
+use Rattle.standard.specs.Refusals.{emptyTests, rateTests, recordTests, stateTests, lineTests, bufferTests, frameTests}
 use Rattle.standard.specs.Calls.{sendRefusal, sendBits, sendLeft, sendOctets, receiveRefusal}
 use Rattle.standard.specs.declared.Law.the-variants.{Mu}
 use Rattle.theorems.specs.Examples.{common}
@@ -79,7 +79,7 @@ unfolding listFrom any largest parts joined each after first bitAt bitsIn field 
     pushAll scramble sizeOf pointOf member sizes product labels signsOf positiveOctet octet dataBits sequenceSent controlBits lineBits
     frameSigns frameLabels frameOctets sendFrame sendNext outgoingFrames sendFrames sendAfter indexTooLarge drnTooLarge grantedBelowFullRate
     intervalEmpty productTooSmall maskAboveIndices framesAtCleardown historyTooLarge doubtfulTooLarge placeTooLarge tooManyFrames emptyTest
-    emptyTests rateTests recordTests lineTests bufferTests frameTests sendRefusal sendBits sendLeft sendOctets receiveRefusal overCalls
+    emptyTests rateTests recordTests stateTests lineTests bufferTests frameTests sendRefusal sendBits sendLeft sendOctets receiveRefusal overCalls
     AllCalls Carried recordByte recordBytes recordAt stateByte stateBytes stateAt answered frameAnswer stateLeft v91Send thenShort
     v91Receive cSent cSendChoices CSendsWith cOctetsRead cReceiveChoices CReceivesWith
 instance =
@@ -109,7 +109,7 @@ unfolding listFrom any largest parts joined each after first bitAt bitsIn field 
     sizeOf labelOf member sizes product number signBits positiveOctet signOf ucodeOf slipPattern sequenceCrc patternWrong crcWrong
     sequenceIn judged dataBits receivedNumber outsideTest outsideTests markTests mark heardBits heardControl sequenceSoFar lostSoFar saidIn
     receiveNext incomingFrames indexTooLarge drnTooLarge grantedBelowFullRate intervalEmpty productTooSmall maskAboveIndices
-    framesAtCleardown historyTooLarge doubtfulTooLarge placeTooLarge tooManyFrames emptyTest emptyTests rateTests recordTests lineTests
+    framesAtCleardown historyTooLarge doubtfulTooLarge placeTooLarge tooManyFrames emptyTest emptyTests rateTests recordTests stateTests lineTests
     bufferTests frameTests receiveRefusal overCalls recordByte recordBytes recordAt stateAt saidKind saidBits heardByte heardBytes answered
     frameAnswer thenShort v91Receive cFramesRead cSaidAt
 instance-said = c-said common Mu start receiving (instance .receiver)

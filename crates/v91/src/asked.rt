@@ -38,9 +38,11 @@ pub(crate) const CLEARDOWN: u32 = 16;
 
 pub(crate) const RETRAIN: u32 = 32;
 
-pub(crate) const DIGITS: u32 = 64;
+pub(crate) const START: u32 = 64;
 
-const OTHER: u32 = 128;
+pub(crate) const DIGITS: u32 = 128;
+
+const OTHER: u32 = 256;
 
 // What is asked: the words there are, a bit for each, and the number that the last word of digits says, the largest where there is none.
 pub(crate) struct Asked {
@@ -107,7 +109,7 @@ fn with_number(a: Asked, word: &[u8], binary: bool) -> Asked {
 // The bit of a word; 0 where it is none of those that are known.
 fn bit_of(word: &[u8]) -> u32 {
     match words::which(
-        b"exact\ncold\nprogress\ncontrol\ncleardown\nretrain\n",
+        b"exact\ncold\nprogress\ncontrol\ncleardown\nretrain\nstart\n",
         b'\n',
         word,
     ) {
@@ -117,6 +119,7 @@ fn bit_of(word: &[u8]) -> u32 {
         4 => CONTROL,
         5 => CLEARDOWN,
         6 => RETRAIN,
+        7 => START,
         _ => 0,
     }
 }

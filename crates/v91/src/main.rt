@@ -2,6 +2,7 @@
 // The language has no exit status: the program always ends with status 0. Its last line on standard error is `v91: ok` where all that was
 // asked is done, else `v91: failed`, and the lines before it say why; `bin/v91` ends with a status by that line.
 mod asked;
+mod begin;
 mod cp_file;
 mod output;
 mod planner;
@@ -20,19 +21,23 @@ fn help(e: Ends) -> bool {
         e,
         b"v91: the V.91 line codec
   v91 cp FILE                           a CP sequence in plain words
+  v91 start CPFILE LAW > octets         the CP and E_s to the line, an octet for each bit, as they come before data
   v91 send CPFILE LAW < data > octets   data to the line; zero bits fill the last frame
   v91 send CPFILE LAW exact             the same, but bits at the end that fill no frame are not sent
+  v91 send CPFILE LAW start             the same, but it begins in the line state that v91 start CPFILE LAW leaves
   v91 send CPFILE LAW control           the same, but the octets begin with a control frame, and the control channel is on;
                                         cleardown and retrain after that ask for it, and BITS, up to 54 digits 0 and 1, are its data
   v91 receive CPFILE LAW < octets > data
   v91 receive CPFILE LAW BYTES          the same, but no more than so many bytes of data
   v91 receive CPFILE LAW cold           the same, but it begins cold: the first 24 bits are doubtful
+  v91 receive CPFILE LAW start          the same, but the octets are to begin with those of v91 start CPFILE LAW, and it finds the line
+                                        state from them
   v91 receive CPFILE LAW control        the same, but the octets are to begin with a control frame, and it says what the channel says
   v91 linear LAW < octets > text        linear samples, one a line
   v91 dil LAW > octets                  the default DIL, V.91's learning sequence: 1,500 octets
   v91 plan K LAW SPACING CEILING        the mask for K that keeps SPACING with the least sum of squares, and a picture of it
   v91 plan K LAW SPACING CEILING svg > FILE, or cp > FILE: the picture as a drawing, or the CP with this mask
-  v91 demo                              an example: a CP, 63 bits sent and received, and one octet damaged
+  v91 demo                              an example: a CP and E_s, 63 bits sent and received, and one octet damaged
   v91 demo cp > FILE                    the CP of the example
   v91 run FILE                          the commands in FILE, one a line, each with its own < FILE and > FILE
   v91 help, v91 --version
@@ -69,7 +74,8 @@ fn unknown(e: Ends, words: &[u8]) -> bool {
 
 // The number of the command that the first word names, in the order of `run_command`.
 pub(crate) fn command_of(words: &[u8]) -> usize {
-    let names = b"cp\nsend\nreceive\nlinear\ndil\nplan\ndemo\nhelp\n--help\n-h\n--version\nrun\n";
+    let names =
+        b"cp\nstart\nsend\nreceive\nlinear\ndil\nplan\ndemo\nhelp\n--help\n-h\n--version\nrun\n";
     words::which(names, b'\n', words::nth_part(words, 0, 0))
 }
 
@@ -77,16 +83,17 @@ pub(crate) fn command_of(words: &[u8]) -> usize {
 pub(crate) fn run_command(e: Ends, words: &[u8], command: usize) -> bool {
     match command {
         1 => has(e, words, 2, 2) && output::cp(e, words),
-        2 => has(e, words, 3, 9) && stream::send(e, words),
-        3 => has(e, words, 3, 7) && stream::receive(e, words),
-        4 => has(e, words, 2, 3) && stream::linear(e, words),
-        5 => has(e, words, 2, 2) && output::dil(e, words),
-        6 => has(e, words, 5, 6) && planner::plan(e, words),
-        7 => has(e, words, 1, 2) && output::demo(e, words),
-        8 => help(e),
+        2 => has(e, words, 3, 3) && begin::start(e, words),
+        3 => has(e, words, 3, 10) && stream::send(e, words),
+        4 => has(e, words, 3, 8) && stream::receive(e, words),
+        5 => has(e, words, 2, 3) && stream::linear(e, words),
+        6 => has(e, words, 2, 2) && output::dil(e, words),
+        7 => has(e, words, 5, 6) && planner::plan(e, words),
+        8 => has(e, words, 1, 2) && output::demo(e, words),
         9 => help(e),
         10 => help(e),
-        11 => write(e, b"v91 5\n"),
+        11 => help(e),
+        12 => write(e, b"v91 6\n"),
         _ => unknown(e, words),
     }
 }
@@ -97,7 +104,7 @@ fn run_words(e: Ends, words: &[u8]) -> bool {
         return help(e);
     }
     let command = command_of(words);
-    if command == 12 {
+    if command == 13 {
         return has(e, words, 2, 2) && script::run(e, words);
     }
     run_command(e, words, command)

@@ -8,10 +8,13 @@ use crate::asked::EXACT;
 use crate::asked::Named;
 use crate::asked::PROGRESS;
 use crate::asked::RETRAIN;
+use crate::asked::START;
 use crate::asked::asked_from;
 use crate::asked::has;
 use crate::asked::law_at;
 use crate::asked::only;
+use crate::begin::receiver_state;
+use crate::begin::sender_state;
 use crate::cp_file::load_cp;
 use console::Ends;
 use console::all_well;
@@ -21,9 +24,6 @@ use console::tell;
 use line::Channel;
 use line::Received;
 use line::Sent;
-use standard::LineState;
-use streams::cold_state;
-use streams::fresh_state;
 use streams::sequences_in;
 
 // Says how many frames were sent, and the bits that were not or the zero bits in the last frame.
@@ -76,9 +76,9 @@ fn sum_up_sent(e: Ends, s: Sent, control: bool) -> bool {
 // The words that send takes: with `control` those for its sequences too.
 fn taken_by_send(control: bool) -> u32 {
     if control {
-        return EXACT | PROGRESS | CONTROL | CLEARDOWN | RETRAIN | DIGITS;
+        return EXACT | PROGRESS | START | CONTROL | CLEARDOWN | RETRAIN | DIGITS;
     }
-    EXACT | PROGRESS | CONTROL
+    EXACT | PROGRESS | START | CONTROL
 }
 
 // The data of the sequences: BITS, or zeros where there are none.
@@ -97,7 +97,8 @@ fn channel_of(a: Asked) -> Channel {
     }
 }
 
-// Sends as the words ask: CPFILE, LAW, and then `exact`, `progress`, `control`, `cleardown`, `retrain` and BITS where they are wanted.
+// Sends as the words ask: CPFILE, LAW, and then `exact`, `progress`, `start`, `control`, `cleardown`, `retrain` and BITS where they are
+// wanted.
 pub(crate) fn send(e: Ends, words: &[u8]) -> bool {
     let named = law_at(e, words, 2);
     let Named::Is(law) = named else {
@@ -107,8 +108,8 @@ pub(crate) fn send(e: Ends, words: &[u8]) -> bool {
     if !only(a, taken_by_send(has(a, CONTROL))) {
         return fail(
             e,
-            b"after LAW send takes the words exact, progress and control alone, and after control cleardown, retrain and up to 54 binary \
-            digits",
+            b"after LAW send takes the words exact, progress, start and control alone, and after control cleardown, retrain and up to 54 \
+            binary digits",
             0,
         );
     }
@@ -116,11 +117,13 @@ pub(crate) fn send(e: Ends, words: &[u8]) -> bool {
     if !loaded.found {
         return false;
     }
+    let r = loaded.record;
     let sent = line::send_stream(
         e,
-        loaded.record,
+        r,
         law,
         channel_of(a),
+        sender_state(r, law, has(a, START)),
         has(a, EXACT),
         e.shows | has(a, PROGRESS),
     );
@@ -182,25 +185,17 @@ fn all_came(e: Ends, asked: bool, wanted: u64) -> bool {
     fail(e, b"the input ended # byte~ of data too early", wanted)
 }
 
-// The line state that a receiver begins in.
-fn begun(cold: bool) -> LineState {
-    if cold {
-        return cold_state();
-    }
-    fresh_state()
-}
-
-// Receives as the words ask: CPFILE, LAW, and then BYTES, `cold`, `control` and `progress` where they are wanted.
+// Receives as the words ask: CPFILE, LAW, and then BYTES, `cold`, `control`, `start` and `progress` where they are wanted.
 pub(crate) fn receive(e: Ends, words: &[u8]) -> bool {
     let named = law_at(e, words, 2);
     let Named::Is(law) = named else {
         return false;
     };
     let a = asked_from(words, 3, false);
-    if !only(a, COLD | CONTROL | PROGRESS | DIGITS) {
+    if !only(a, COLD | CONTROL | START | PROGRESS | DIGITS) {
         return fail(
             e,
-            b"after LAW receive takes BYTES, a number of 1 to 18 digits, and the words cold, control and progress alone",
+            b"after LAW receive takes BYTES, a number of 1 to 18 digits, and the words cold, control, start and progress alone",
             0,
         );
     }
@@ -208,12 +203,16 @@ pub(crate) fn receive(e: Ends, words: &[u8]) -> bool {
     if !loaded.found {
         return false;
     }
+    let begun = receiver_state(e, loaded.bit_count, law, has(a, START), has(a, COLD));
+    if !begun.found {
+        return false;
+    }
     let got = line::receive_stream(
         e,
         loaded.record,
         law,
         has(a, CONTROL),
-        begun(has(a, COLD)),
+        begun.state,
         a.number,
         e.shows | has(a, PROGRESS),
     );

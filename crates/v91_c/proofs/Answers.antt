@@ -12,11 +12,13 @@ use lib.ListN.{length}
 use Rattle.standard.specs.First.{Answer, bare, Test, test, first}
 use Rattle.standard.specs.Record.{topIndex}
 use Rattle.standard.specs.Cp.{cpByteCount}
-use Rattle.standard.specs.Refusals.{outcomeAnswer, shorter, recordTests, readTests, writeTests, planTests}
+use Rattle.standard.specs.Start.{cpAndEnd}
+use Rattle.standard.specs.Refusals.{outcomeAnswer, shorter, recordTests, readTests, writeTests, sendCpTests, planTests}
 use Rattle.standard.specs.Calls.{accepted, over, readCall, readRefusal, readRecord, WriteCall, writeCall, writeRefusal, writeBitCount}
 use Rattle.standard.specs.Calls.{writeBytes, sendCall, sendRefusal, sendLeft, sendOctets, receiveCall, receiveRefusal, receiveLeft}
 use Rattle.standard.specs.Calls.{receiveBytes, receiveMarked, receiveSays, dilCall, dilRefusal, dilOctets, planCall, planRefusal}
-use Rattle.standard.specs.Calls.{planHalves, planSum}
+use Rattle.standard.specs.Calls.{planHalves, planSum, CpCall, cpCall, sendCpRefusal, sendCpCount, sendCpOctets, sendCpLeft, findRefusal}
+use Rattle.standard.specs.Calls.{findLeft}
 use Rattle.standard.specs.declared.Law.{Law}
 use Rattle.standard.specs.declared.LineState.{LineState}
 use Rattle.standard.specs.declared.Outcome.{Outcome}
@@ -27,14 +29,15 @@ use Rattle.standard.proofs.Lists.{or-none}
 use Rattle.standard.proofs.First.{numbered, none-first, first-append, first-left}
 use Rattle.standard.proofs.Stages.{refused-not}
 use Rattle.standard.proofs.Dil.{length-defaultDil}
-use Rattle.standard.proofs.Refusals.{top-lt, read-numbered, write-numbered, plan-numbered}
+use Rattle.standard.proofs.Start.{length-cpAndEnd}
+use Rattle.standard.proofs.Refusals.{top-lt, read-numbered, write-numbered, send-cp-numbered, plan-numbered}
 use Rattle.forms.specs.Coded.{coded}
 use Rattle.forms.specs.RecordBytes.{recordLength, recordBytes, recordAt}
-use Rattle.forms.specs.StateBytes.{stateLength, stateBytes, stateAt}
+use Rattle.forms.specs.StateBytes.{stateLength, stateBytes, lineBytes, stateAt}
 use Rattle.forms.specs.PlanBytes.{planLength, planBytes}
 use Rattle.forms.specs.HeardBytes.{heardLength, heardBytes}
 use Rattle.v91_c.specs.Interface.{lawOf, answered, frameAnswer, stateLeft, thenShort, v91ReadCp, v91WriteCp, v91Send, v91Receive}
-use Rattle.v91_c.specs.Interface.{v91SendDil, v91Plan}
+use Rattle.v91_c.specs.Interface.{v91SendDil, v91SendCp, v91FindState, v91Plan}
 
 -- ---- an outcome in one number: 0 where nothing is refused, and only there
 
@@ -264,6 +267,62 @@ module _ (a : Bool) (octets : List ℕ) {l : Law} (el : l ≡ lawOf a) (o : Outc
   pub dil-done : k ≡ 0 → v91SendDil a octets ≡ record { answer = 1500; octets = os }
   unfolding v91SendDil answered
   dil-done z = rw (eos, ← el, ← eo, code-done o k ek z, length-defaultDil)
+
+-- ---- v91_send_cp
+
+-- the octet count is that of six masks at most
+pub octets-fit : (st : LineState) (c : CpCall) → sendCpCount st c < 2 ^ 32
+unfolding sendCpRefusal sendCpCount sendCpTests recordTests
+octets-fit st c = go (accepted (sendCpRefusal st c)) refl
+  where
+    go : (b : Bool) → accepted (sendCpRefusal st c) ≡ b → sendCpCount st c < 2 ^ 32
+    go true e =
+        let short = shorter (c .octets) (length (cpAndEnd (c .cp))) in
+        rw e (omega (
+          arith,
+          length-cpAndEnd (c .cp),
+          top-lt (c .cp)
+              (none-first (sendCpTests (c .cp) st short) (send-cp-numbered (c .cp) st short) (eqb-true (sendCpRefusal st c .number) 0 e) .0),
+        ))
+    go false e = rw e (lit< tt)
+
+module _ (rec : List ℕ) (a : Bool) (octets state : List ℕ) where
+  pub send-cp-short : (ltb (length rec) recordLength || ltb (length state) stateLength) ≡ true
+      → v91SendCp rec a octets state ≡ record { answer = 16; octets = octets; state = state }
+  unfolding v91SendCp answered
+  send-cp-short h = rw (frame-short rec state _ h)
+
+  module _ (h : (ltb (length rec) recordLength || ltb (length state) stateLength) ≡ false) {r : Record} (er : r ≡ recordAt rec)
+      {st : LineState} (es : st ≡ stateAt state) {l : Law} (el : l ≡ lawOf a) (o : Outcome)
+      (eo : outcomeAnswer o ≡ sendCpRefusal st (cpCall r l octets)) {k : ℕ} (ek : k ≡ coded (outcomeAnswer o)) {os : List ℕ}
+      (eos : os ≡ sendCpOctets st (cpCall r l octets)) where
+    pub send-cp-refused : (k ≡ 0 → ⊥) → v91SendCp rec a octets state ≡ record { answer = k; octets = os; state = state }
+    unfolding v91SendCp answered sendCpOctets
+    send-cp-refused p = rw (frame-long rec state _ h, eos, ← er, ← es, ← el, ← eo, code-refused o k ek p, ek)
+
+    pub send-cp-done : k ≡ 0 → (n : ℕ) → n ≡ sendCpCount st (cpCall r l octets) → (left : LineState)
+        → left ≡ sendCpLeft st (cpCall r l octets) → (s : List ℕ) → s ≡ over (lineBytes left) state
+        → v91SendCp rec a octets state ≡ record { answer = n; octets = os; state = s }
+    unfolding v91SendCp answered
+    send-cp-done z n en left e s q = rw (frame-long rec state _ h, eos, en, q, e, ← er, ← es, ← el, ← eo, code-done o k ek z)
+
+-- ---- v91_find_state
+
+module _ (octets state : List ℕ) where
+  pub find-short : length state < stateLength → v91FindState octets state ≡ record { answer = 16; state = state }
+  unfolding v91FindState answered first
+  find-short h = rw (lt-ltb _ _ h)
+
+  module _ (long : stateLength ≤ length state) {st : LineState} (es : st ≡ stateAt state) (o : Outcome)
+      (eo : outcomeAnswer o ≡ findRefusal octets) {k : ℕ} (ek : k ≡ coded (outcomeAnswer o)) where
+    pub find-refused : (k ≡ 0 → ⊥) → v91FindState octets state ≡ record { answer = k; state = state }
+    unfolding v91FindState answered first
+    find-refused p = rw (le-ltb _ _ long, ← eo, code-refused o k ek p, ek)
+
+    pub find-done : k ≡ 0 → (left : LineState) → left ≡ findLeft st octets → (s : List ℕ) → s ≡ over (lineBytes left) state
+        → v91FindState octets state ≡ record { answer = 0; state = s }
+    unfolding v91FindState answered first
+    find-done z left e s q = rw (le-ltb _ _ long, q, e, ← es, ← eo, code-done o k ek z)
 
 -- ---- v91_plan
 

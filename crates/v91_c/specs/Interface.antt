@@ -9,13 +9,14 @@ use Rattle.standard.specs.Refusals.{shorter, readTests, planTests}
 use Rattle.standard.specs.Dil.{defaultDil}
 use Rattle.standard.specs.Calls.{accepted, over, readCall, readRecord, writeCall, writeRefusal, writeBitCount, writeBytes, sendCall}
 use Rattle.standard.specs.Calls.{sendRefusal, sendLeft, sendOctets, receiveCall, receiveRefusal, receiveLeft, receiveBytes, receiveMarked}
-use Rattle.standard.specs.Calls.{receiveSays, dilCall, dilRefusal, dilOctets, planCall, planHalves, planSum}
+use Rattle.standard.specs.Calls.{receiveSays, dilCall, dilRefusal, dilOctets, cpCall, sendCpRefusal, sendCpCount, sendCpOctets, sendCpLeft}
+use Rattle.standard.specs.Calls.{findRefusal, findLeft, planCall, planHalves, planSum}
 use Rattle.standard.specs.declared.Law.{Law}
 use Rattle.standard.specs.declared.Law.the-variants.{Mu, A}
 use Rattle.standard.specs.declared.LineState.{LineState}
 use Rattle.forms.specs.Coded.{coded}
 use Rattle.forms.specs.RecordBytes.{recordLength, recordBytes, recordAt}
-use Rattle.forms.specs.StateBytes.{stateLength, stateBytes, stateAt}
+use Rattle.forms.specs.StateBytes.{stateLength, stateBytes, lineBytes, stateAt}
 use Rattle.forms.specs.PlanBytes.{planLength, planBytes}
 use Rattle.forms.specs.HeardBytes.{heardLength, heardBytes}
 
@@ -59,7 +60,7 @@ v91WriteCp rec cp =
 
 -- ---- v91_send
 
--- what a call of frames is answered: a short record, then a short line state, then the entry's own answer
+-- what a call with a record and a line state is answered: a short record, then a short line state, then the entry's own answer
 unfoldable pub frameAnswer : List ℕ → List ℕ → Answer → Answer
 frameAnswer rec state a = first (test 16 (shorter rec recordLength) ∷ test 16 (shorter state stateLength) ∷ otherwise a ∷ [])
 
@@ -119,6 +120,33 @@ v91SendDil aLaw octets =
     answered (dilRefusal call)
     (record { answer = length (defaultDil (lawOf aLaw)); octets = dilOctets call })
     (λ n. record { answer = n; octets = octets })
+
+-- ---- v91_send_cp: it answers the octet count. Of the line state the history and the last sign are written
+
+pub record AfterSendCp : Type 0 where
+  pub answer : ℕ
+  pub octets : List ℕ
+  pub state : List ℕ
+
+unfoldable pub v91SendCp : List ℕ → Bool → List ℕ → List ℕ → AfterSendCp
+v91SendCp rec aLaw octets state =
+    let st = stateAt state in
+    let call = cpCall (recordAt rec) (lawOf aLaw) octets in
+    answered (frameAnswer rec state (sendCpRefusal st call))
+    (record { answer = sendCpCount st call; octets = sendCpOctets st call; state = over (lineBytes (sendCpLeft st call)) state })
+    (λ n. record { answer = n; octets = octets; state = state })
+
+-- ---- v91_find_state: the same of the line state found
+
+pub record AfterFind : Type 0 where
+  pub answer : ℕ
+  pub state : List ℕ
+
+unfoldable pub v91FindState : List ℕ → List ℕ → AfterFind
+v91FindState octets state =
+    answered (first (test 16 (shorter state stateLength) ∷ otherwise (findRefusal octets) ∷ []))
+    (record { answer = 0; state = over (lineBytes (findLeft (stateAt state) octets)) state })
+    (λ n. record { answer = n; state = state })
 
 -- ---- v91_plan: 26, 27 and 28, then 17 for the buffer to be written
 

@@ -20,7 +20,7 @@ ghost use Rattle.forms.specs.RecordBytes.{recordLength};
 ghost use Rattle.forms.specs.StateBytes.{stateLength};
 ghost use Rattle.forms.specs.HeardBytes.{heardLength, heardBytes};
 ghost use Rattle.v91_c.specs.Interface.{lawOf, answered, stateLeft, thenShort, v91ReadCp, v91WriteCp, v91Send, v91Receive};
-ghost use Rattle.v91_c.specs.Interface.{v91SendDil, v91Plan};
+ghost use Rattle.v91_c.specs.Interface.{v91SendDil, v91SendCp, v91FindState, v91Plan};
 
 // The refusals 16 and 17, which are answered here for a record, a line state or a plan.
 const INPUT_TOO_SHORT: u32 = 16;
@@ -219,6 +219,46 @@ pub extern "C" fn v91_send_dil(a_law: bool, octets: &mut [u8]) -> u32
         return refusal;
     }
     DIL_OCTETS as u32
+}
+
+// Sends a record's CP and E_s as octets, from the line state and to the one left, and answers how many octets they have.
+#[no_mangle]
+pub extern "C" fn v91_send_cp(rec: &[u8], a_law: bool, octets: &mut [u8], state: &mut [u8]) -> u32
+    ensures { λ r. ⌜ v91SendCp (now (rec .entry)) «a_law» (now (octets .entry)) (now (state .entry))
+        ≡ record { answer = r; octets = now (octets .exit); state = now (state .exit) } ⌝ }
+{
+    if lent_short(rec.len(), state.len()) {
+        return INPUT_TOO_SHORT;
+    }
+    let r = forms::record_from(rec);
+    let line = forms::state_from(state);
+    let sent = start::send_cp(r, law_of(a_law), line, octets);
+    let count = sent.octet_count as u32;
+    let outcome = sent.outcome;
+    let refusal = forms::code_of(outcome);
+    if refusal != 0 {
+        return refusal;
+    }
+    forms::line_into(sent.state, state);
+    count
+}
+
+// Finds the line state that a CP and E_s left from the last 24 of their octets.
+#[no_mangle]
+pub extern "C" fn v91_find_state(octets: &[u8], state: &mut [u8]) -> u32
+    ensures { λ r. ⌜ v91FindState (now (octets .entry)) (now (state .entry)) ≡ record { answer = r; state = now (state .exit) } ⌝ }
+{
+    if state.len() < STATE_BYTES {
+        return INPUT_TOO_SHORT;
+    }
+    let found = start::find_state(octets, forms::state_from(state));
+    let outcome = found.outcome;
+    let refusal = forms::code_of(outcome);
+    if refusal != 0 {
+        return refusal;
+    }
+    forms::line_into(found.state, state);
+    0
 }
 
 // Plans a mask for a wanted rate: puts it and its sum of squares into the first 24 bytes.

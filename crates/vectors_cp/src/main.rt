@@ -2,28 +2,11 @@
 // `00`, the bit count in eight bytes and the CP, which `refusal, record` answers; or `01`, a record and a buffer, which
 // `refusal, bit count in two bytes, buffer afterwards` answers. A refusal is its number (0 for none) and its value, a byte each. Numbers
 // have their low byte first, and a record is 105 bytes.
-use standard::Outcome;
+use cases::put_refusal;
 use text::calls;
 ghost use mathlib.Core.Path.{_≡_};
-ghost use Prim.Native.Nat.{_<_, _≤_};
-ghost use lib.ListN.{length, set};
-
-// Puts one byte.
-fn put(reply: &mut [u8], at: usize, byte: u8)
-    requires { ⌜ at < length (now reply) ⌝ }
-    ensures { λ x. ⌜ now (reply .exit) ≡ set (now (reply .entry)) at byte ⌝ }
-{
-    reply[at] = byte;
-}
-
-// Puts the refusal of an outcome.
-fn put_refusal(reply: &mut [u8], outcome: Outcome)
-    requires { ⌜ 2 ≤ length (now reply) ⌝ }
-{
-    let code = forms::code_of(outcome);
-    put(reply, 0, (code % 256) as u8);
-    put(reply, 1, (code / 0x100_0000) as u8);
-}
+ghost use Prim.Native.Nat.{_≤_};
+ghost use lib.ListN.{length};
 
 // Answers a call of the reader: bit count and CP.
 fn answer_read(call: &[u8], reply: &mut [u8]) -> usize
@@ -33,7 +16,7 @@ fn answer_read(call: &[u8], reply: &mut [u8]) -> usize
     let read = cp::read_cp(&call[8..], bits::field_at(call, 0, 64) as usize);
     let outcome = read.outcome;
     let r = read.record;
-    put_refusal(reply, outcome);
+    put_refusal(outcome, reply);
     forms::record_into(r, &mut reply[2..]);
     107
 }
@@ -50,9 +33,8 @@ fn answer_write(call: &[u8], reply: &mut [u8]) -> usize
     bytes::copy(&call[105..call.len()], &mut reply[4..end]);
     let written = cp::write_cp(forms::record_from(call), &mut reply[4..end]);
     let outcome = written.outcome;
-    put_refusal(reply, outcome);
-    put(reply, 2, (written.bit_count % 256) as u8);
-    put(reply, 3, (written.bit_count / 256 % 256) as u8);
+    put_refusal(outcome, reply);
+    bits::put_field(reply, 16, 16, written.bit_count as u64);
     end
 }
 

@@ -8,11 +8,15 @@
 // `03`, record, law, frames, state, choice, lengths of the bits buffer and the marks buffer, octets: by refusal, state, what is heard, both
 // buffers afterwards.
 // `04`, law, length of the samples buffer, octets: by refusal and samples, 4 bytes each in two's complement.
+use cases::fill;
+use cases::law_of;
+use cases::put_left;
+use cases::put_refusal;
+use cases::two;
 use standard::FramesDone;
 use standard::FramesRead;
 use standard::Law;
 use standard::LineState;
-use standard::Outcome;
 use standard::Record;
 use text::calls;
 ghost use Prim.Native.Nat.{_+_, _*_, _%_, _<_, _≤_};
@@ -25,14 +29,6 @@ struct Setup {
     frames: usize,
     state: LineState,
     control: bool,
-}
-
-// The law of a number.
-fn law_of(number: u8) -> Law {
-    if number == 0 {
-        return Law::Mu;
-    }
-    Law::A
 }
 
 // The record, the law, the frames, the state and the choice of a call.
@@ -50,43 +46,6 @@ fn setup_at(call: &[u8]) -> Setup
         state,
         control: call[136] != 0,
     }
-}
-
-// The number of two bytes.
-fn two(low: u8, high: u8) -> usize
-    ensures { λ n. ⌜ n < 65536 ⌝ }
-{
-    low as usize + 256 * (high as usize)
-}
-
-// Fills a buffer: byte i is (first + step * i) mod 256.
-fn fill(buffer: &mut [u8], first: usize, step: usize)
-    requires { ⌜ (first < 256) × (step < 256) ⌝ }
-{
-    let mut value = first;
-    let mut i = 0;
-    while i < buffer.len() {
-        buffer[i] = value as u8;
-        value = (value + step) % 256;
-        i += 1;
-    }
-}
-
-// Puts the refusal of an outcome.
-fn put_refusal(outcome: Outcome, reply: &mut [u8])
-    requires { ⌜ 2 ≤ length (now reply) ⌝ }
-{
-    let code = forms::code_of(outcome) as u64;
-    bits::put_field(reply, 0, 8, code % 256);
-    bits::put_field(reply, 8, 8, code / 0x100_0000);
-}
-
-// Puts the refusal and the state left.
-fn put_left(outcome: Outcome, state: LineState, reply: &mut [u8])
-    requires { ⌜ 23 ≤ length (now reply) ⌝ }
-{
-    put_refusal(outcome, reply);
-    forms::state_into(state, &mut reply[2..]);
 }
 
 // Puts the answer of the sender.

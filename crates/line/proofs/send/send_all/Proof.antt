@@ -14,5 +14,5 @@ abbrev μ-loop : tie.MeasureT-loop
 
 pub send-all-spec : {M : Type 1} → statement M
 send-all-spec =
-    tie.close (tie.spec Inv-loop μ-loop (λ c κs. tt) (λ c κs. tt) (λ c. omega arith) (λ c κs. omega arith) (λ c. omega arith)
+    tie.close (tie.spec Inv-loop μ-loop (λ c κs. tt) (λ c. omega arith) (λ c κs. omega arith) (λ c. omega arith)
     (λ c. omega arith) (λ c. omega arith) (λ c. omega arith) (λ c. omega arith) (λ c. omega arith) (λ c. omega arith))

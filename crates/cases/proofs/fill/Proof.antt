@@ -3,8 +3,8 @@ use native.Mathlib.Omega.{arith}
 use lib.ListN.{length, length-set}
 use Prim.Native.Nat.{_≤_, _<_, _-_}
 use mathlib.Core.Path.{_≡_}
-use Rattle.vectors_frames.proofs.fill.Statement.{statement}
-use Rattle.vectors_frames.proofs.fill.Tie as tie
+use Rattle.cases.proofs.fill.Statement.{statement}
+use Rattle.cases.proofs.fill.Tie as tie
 
 abbrev Inv-loop : tie.InvT-loop
 Inv-loop buffer₀ first step value₀ i₀ buffer value i = (i ≤ length buffer) × (length buffer ≡ length buffer₀) × (value < 256)
