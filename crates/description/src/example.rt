@@ -12,7 +12,7 @@ use words::add_numbers;
 ghost use mathlib.Core.Path.{_≡_};
 ghost use Prim.Native.Nat.{_≤_};
 ghost use lib.ListN.{length};
-ghost use Rattle.theorems.specs.Examples.{common};
+ghost use Rattle.theorems_cp.specs.Examples.{common};
 
 // The record of document 01's examples: Ucodes 0 to 5 in one mask for all intervals, drn 1.
 pub fn example_record() -> Record

@@ -37,7 +37,7 @@ use Rattle.standard.proofs.First.{None, first-none, none-first, none-append}
 use Rattle.standard.proofs.Scrambler.{pushAll-lt}
 use Rattle.standard.proofs.Frame.{doubtful-le, length-sendFrame}
 use Rattle.standard.proofs.Refusals.{record-numbered}
-use Rattle.theorems.specs.Examples.{common}
+use Rattle.theorems_cp.specs.Examples.{common}
 use Rattle.theorems.specs.Runs.{overCalls, AllCalls, sends, receives, message, sent, octetsRead, sendChoices, receiveChoices, framesRead}
 use Rattle.theorems.specs.Runs.{SendsWith, ReceivesWith, Damage, frames, Carried, Run}
 use Rattle.theorems.specs.Channel.{framesSent, controlSent, Steady, Placed, saidAt, saidGiven, StartsAt, Whole, ControlAt}

@@ -33,7 +33,7 @@ use Rattle.standard.specs.Calls.{SendCall, sendRefusal, sendBits, sendLeft, sen
 use Rattle.standard.specs.Calls.{receiveLeft, receiveBytes, receiveMarked}
 use Rattle.standard.specs.declared.Law.the-variants.{Mu}
 use Rattle.standard.specs.declared.LineState.{LineState}
-use Rattle.theorems.specs.Examples.{common}
+use Rattle.theorems_cp.specs.Examples.{common}
 use Rattle.theorems.specs.Runs.{overCalls, AllCalls, message, sent, octetsRead, handedOver, marksGiven, sendChoices, receiveChoices}
 use Rattle.theorems.specs.Runs.{framesRead, stateBefore, SendsWith, ReceivesWith, frames, Unaltered, Carried, Run}
 use Rattle.theorems.specs.Counts.{AlteredMarked, Counted}

@@ -31,7 +31,7 @@ use Rattle.standard.specs.Refusals.{emptyTests, rateTests, recordTests, stateTe
 use Rattle.standard.specs.Calls.{SendCall, sendRefusal, sendBits, sendLeft, sendOctets, ReceiveCall, receiveRefusal, receiveOctets}
 use Rattle.standard.specs.Calls.{receiveLeft, receiveBytes, receiveMarked}
 use Rattle.standard.specs.declared.Law.the-variants.{Mu, A}
-use Rattle.theorems.specs.Examples.{common, full, state}
+use Rattle.theorems_cp.specs.Examples.{common, full, state}
 use Rattle.theorems.specs.Runs.{overCalls, AllCalls, message, sent, octetsRead, handedOver, marksGiven, sendChoices, receiveChoices}
 use Rattle.theorems.specs.Runs.{SendsWith, ReceivesWith, frames, Carried, Run, Delivered}
 use Rattle.theorems.proofs.Runs.{runs}

@@ -31,7 +31,7 @@ use Rattle.standard.specs.Calls.{receiveLeft, receiveBytes, receiveMarked, CpCa
 use Rattle.standard.specs.Calls.{sendCpLeft, findRefusal, findLeft}
 use Rattle.standard.specs.declared.LineState.{LineState}
 use Rattle.standard.specs.declared.Law.the-variants.{Mu, A}
-use Rattle.theorems.specs.Examples.{common, state}
+use Rattle.theorems_cp.specs.Examples.{common, state}
 use Rattle.theorems.specs.Runs.{overCalls, AllCalls, message, sent, octetsRead, handedOver, marksGiven, sendChoices, receiveChoices}
 use Rattle.theorems.specs.Runs.{SendsWith, ReceivesWith, clean, Carried, Run}
 use Rattle.theorems_start.specs.Start.{cpSent, Start, FromTheFirst}

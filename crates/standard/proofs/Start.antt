@@ -1,12 +1,12 @@
 -- Laws of A.3: bits on the line one after the other, and the state found from the octets at their end. Assumes nothing.
 use mathlib.Core.Path.{_≡_, refl, sym, ap, ap₂, _∙_}
-use Prim.Native.Nat.{ℕ, zero, suc, _+_, _-_, _^_, _≤_, _<_}
+use Prim.Native.Nat.{ℕ, _+_, _-_, _^_, _≤_, _<_}
 use mathlib.Core.Bool.{Bool, false}
 use mathlib.Core.List.{List, [], _∷_, _++_, map}
-use native.Mathlib.Nat.{mod-eq-of-lt, not-suc-le-zero}
+use native.Mathlib.Nat.{mod-eq-of-lt}
 use native.Mathlib.Omega.{arith}
 use lib.Dec.{lit<}
-use lib.ListN.{length, getD, take, drop, length-append, length-drop, length-map, length-replicate, take-append-drop}
+use lib.ListN.{length, take, drop, length-append, length-drop, length-map, take-append-drop}
 use lib.Seq.{drop-append-add}
 use Rattle.standard.specs.Lists.{listFrom, lastOr, lastOf}
 use Rattle.standard.specs.Bits.{_⊕_}
@@ -16,7 +16,7 @@ use Rattle.standard.specs.Scrambler.{taps, push, pushAll, scramble}
 use Rattle.standard.specs.Signs.{signsOf}
 use Rattle.standard.specs.Octets.{octet, signOf}
 use Rattle.standard.specs.Start.{withLine, endOfCp, cpAndEnd, signsFor, octetsFor, leftBy, bitsBetween, foundHistory, foundSign}
-use Rattle.standard.specs.Start.{foundIn}
+use Rattle.standard.specs.Start.{foundFrom, foundIn}
 use Rattle.standard.specs.declared.Law.{Law}
 use Rattle.standard.specs.declared.LineState.{LineState}
 use Rattle.standard.specs.declared.Record.{Record}
@@ -127,29 +127,38 @@ unfolding lastOf
 last-all n b e = let z : length b - n ≡ 0 = omega arith in rw z refl
 
 -- 'The history and sign left follow from the last 24 octets alone': whatever was on the line before, and whatever state the bits began in
-pub state-follows : (l : Law) (st t : LineState) (before : List ℕ) (ds : List Bool) → 24 ≤ length ds
-    → foundIn t (before ++ octetsFor l st ds) ≡ withLine t (leftBy st ds .history) (leftBy st ds .sign)
-unfolding foundIn
-state-follows l st t before ds h = go (drop (length ds - 24) ds) (take-append-drop (length ds - 24) ds) (omega (arith, length-drop (length ds - 24) ds))
-  where
-    a : List Bool
-    a = take (length ds - 24) ds
+module _ (l : Law) (st t : LineState) (before : List ℕ) (ds : List Bool) (h : foundFrom ≤ length ds) where
+  -- all bits but the last 24, and the octets of those
+  abbrev earlier : List Bool
+  earlier = take (length ds - foundFrom) ds
 
-    go : (b : List Bool) → a ++ b ≡ ds → length b ≡ 24
-        → withLine t (foundHistory (lastOf 24 (before ++ octetsFor l st ds))) (foundSign (lastOf 24 (before ++ octetsFor l st ds)))
-        ≡ withLine t (leftBy st ds .history) (leftBy st ds .sign)
-    go [] e n = absurd (omega arith)
-    go (x ∷ xs) e n =
-        let m = leftBy st a in
-        let os = octetsFor l m (x ∷ xs) in
-        let long : length os ≡ 24 = length-octetsFor l m (x ∷ xs) ∙ n in
-        let ends : lastOf 24 (before ++ octetsFor l st ds) ≡ os =
-        last-append 24 before (octetsFor l st ds) (omega (arith, length-octetsFor l st ds))
-        ∙ ap (λ (ys : List Bool). lastOf 24 (octetsFor l st ys)) (sym e)
-        ∙ ap (lastOf 24) (octets-append l st a (x ∷ xs))
-        ∙ last-append 24 (octetsFor l st a) os (omega arith)
-        ∙ last-all 24 os long in
-        let left : leftBy st ds ≡ leftBy m (x ∷ xs) = ap (leftBy st) (sym e) ∙ left-append st a (x ∷ xs) in
-        let k : 23 ≤ length xs = omega arith in
-        ap₂ (withLine t) (ap foundHistory ends ∙ found-history l m x xs k ∙ ap (λ (z : LineState). z .history) (sym left))
-        (ap foundSign ends ∙ found-sign l m x xs k ∙ ap (λ (z : LineState). z .sign) (sym left))
+  abbrev heard : List ℕ
+  heard = before ++ octetsFor l st ds
+
+  ends-in : (b : List Bool) → earlier ++ b ≡ ds → length b ≡ foundFrom → lastOf foundFrom heard ≡ octetsFor l (leftBy st earlier) b
+  ends-in b e n =
+      let os = octetsFor l (leftBy st earlier) b in
+      let long : length os ≡ foundFrom = length-octetsFor l (leftBy st earlier) b ∙ n in
+      last-append foundFrom before (octetsFor l st ds) (omega (arith, length-octetsFor l st ds))
+      ∙ ap (λ (ys : List Bool). lastOf foundFrom (octetsFor l st ys)) (sym e)
+      ∙ ap (lastOf foundFrom) (octets-append l st earlier b)
+      ∙ last-append foundFrom (octetsFor l st earlier) os (omega arith)
+      ∙ last-all foundFrom os long
+
+  pub state-follows : foundIn t heard ≡ withLine t (leftBy st ds .history) (leftBy st ds .sign)
+  unfolding foundIn
+  state-follows =
+      let many : length (drop (length ds - foundFrom) ds) ≡ foundFrom = omega (arith, length-drop (length ds - foundFrom) ds) in
+      go (drop (length ds - foundFrom) ds) (take-append-drop (length ds - foundFrom) ds) many
+    where
+      go : (b : List Bool) → earlier ++ b ≡ ds → length b ≡ foundFrom
+          → withLine t (foundHistory (lastOf foundFrom heard)) (foundSign (lastOf foundFrom heard))
+          ≡ withLine t (leftBy st ds .history) (leftBy st ds .sign)
+      go [] e n = absurd (omega arith)
+      go (x ∷ xs) e n =
+          let m = leftBy st earlier in
+          let ends = ends-in (x ∷ xs) e n in
+          let left : leftBy st ds ≡ leftBy m (x ∷ xs) = ap (leftBy st) (sym e) ∙ left-append st earlier (x ∷ xs) in
+          let enough : 23 ≤ length xs = omega arith in
+          ap₂ (withLine t) (ap foundHistory ends ∙ found-history l m x xs enough ∙ ap (λ (z : LineState). z .history) (sym left))
+          (ap foundSign ends ∙ found-sign l m x xs enough ∙ ap (λ (z : LineState). z .sign) (sym left))

@@ -10,13 +10,3 @@ pub mod Channel
 pub mod Counts
 pub mod Alike
 pub mod Off
-pub mod Fewer
-pub mod Examples
-pub mod Ignored
-pub mod WriteRead
-pub mod ReadWrite
-pub mod Zeros
-pub mod Empty
-pub mod Lengths
-pub mod Dil
-pub mod Plan

@@ -3,10 +3,3 @@ pub mod Counts
 pub mod Channel
 pub mod Alike
 pub mod Off
-pub mod Examples
-pub mod RoundTrip
-pub mod Empty
-pub mod Lengths
-pub mod Dil
-pub mod Plan
-pub mod Ignored

@@ -1,1 +1,1 @@
-// What follows from the definitions of `standard`: statements in specs/, proofs in proofs/.
+// What follows of lists of calls from the definitions of `standard`: statements in specs/, proofs in proofs/.

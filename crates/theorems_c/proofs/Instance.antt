@@ -26,7 +26,7 @@ use Rattle.standard.specs.Refusals.{framesAtCleardown, historyTooLarge, doubtfu
 use Rattle.standard.specs.Refusals.{emptyTests, rateTests, recordTests, stateTests, lineTests, bufferTests, frameTests}
 use Rattle.standard.specs.Calls.{sendRefusal, sendBits, sendLeft, sendOctets, receiveRefusal}
 use Rattle.standard.specs.declared.Law.the-variants.{Mu}
-use Rattle.theorems.specs.Examples.{common}
+use Rattle.theorems_cp.specs.Examples.{common}
 use Rattle.theorems.specs.Runs.{overCalls, AllCalls, clean, Carried, Delivered}
 use Rattle.theorems.specs.Counts.{Counted}
 use Rattle.forms.specs.RecordBytes.{recordByte, recordBytes, recordAt}

@@ -31,7 +31,7 @@ use Rattle.standard.proofs.Bits.{field-lt, length-bytesOf}
 use Rattle.standard.proofs.Scrambler.{pushAll-lt}
 use Rattle.standard.proofs.Refusals.{passed}
 use Rattle.standard.proofs.Calls.{sends-own, receives-own}
-use Rattle.theorems.specs.RoundTrip.{Shaped}
+use Rattle.theorems_cp.specs.RoundTrip.{Shaped}
 use Rattle.theorems.specs.Runs.{overCalls, AllCalls, sends, receives, message, sent, octetsRead, handedOver, marksGiven, sendChoices}
 use Rattle.theorems.specs.Runs.{receiveChoices, framesRead, stateBefore, SendsWith, ReceivesWith, Damage, Run}
 use Rattle.theorems.specs.Channel.{spoken, saidAt, saidGiven}

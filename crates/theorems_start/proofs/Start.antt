@@ -72,15 +72,6 @@ found s t c earlier e =
     let h = enough s c e earlier in
     (find-done (earlier ++ cpSent s c) h, rw (find-is (earlier ++ cpSent s c) h t) (found-same s c e t earlier))
 
--- the state found, of the last 24 octets of what was sent
-alone : (s t : LineState) (c d : CpCall) → sendsCp s c ≡ true → sendsCp t d ≡ true
-    → lastOf foundFrom (cpSent s c) ≡ lastOf foundFrom (cpSent t d) → Same (sendCpLeft s c) (sendCpLeft t d)
-unfolding foundIn
-alone s t c d e f q =
-    let one = found-same s c e s [] in
-    let other = found-same t d f s [] in
-    (one .0 ∙ ap foundHistory q ∙ sym (other .0), one .1 ∙ ap foundSign q ∙ sym (other .1))
-
 left-others : (s : LineState) (c : CpCall) → OthersKept s (sendCpLeft s c)
 unfolding sendCpLeft leftBy
 left-others s c = go (sendsCp s c) refl
@@ -98,7 +89,17 @@ found-others t heard = go (accepted (findRefusal heard)) refl
     go false e = rw e (record { doubtful = refl; place = refl; done = refl; sequence = refl; lost = refl })
 
 pub states-follow : StatesFollow
-states-follow = record { alone = alone; found = found; leftOthers = left-others; foundOthers = found-others }
+unfolding foundIn
+states-follow =
+    record {
+      alone = λ s t c d e f q.
+          let one = found-same s c e s [] in
+          let other = found-same t d f s [] in
+          (one .0 ∙ ap foundHistory q ∙ sym (other .0), one .1 ∙ ap foundSign q ∙ sym (other .1));
+      found = found;
+      leftOthers = left-others;
+      foundOthers = found-others;
+    }
 
 pub start-delivers : StartDelivers
 start-delivers s t u v c earlier r l sending receiving w line m start run =

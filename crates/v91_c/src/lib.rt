@@ -233,14 +233,14 @@ pub extern "C" fn v91_send_cp(rec: &[u8], a_law: bool, octets: &mut [u8], state:
     let r = forms::record_from(rec);
     let line = forms::state_from(state);
     let sent = start::send_cp(r, law_of(a_law), line, octets);
-    let count = sent.octet_count as u32;
+    let total = sent.octet_count as u32;
     let outcome = sent.outcome;
     let refusal = forms::code_of(outcome);
     if refusal != 0 {
         return refusal;
     }
     forms::line_into(sent.state, state);
-    count
+    total
 }
 
 // Finds the line state that a CP and E_s left from the last 24 of their octets.

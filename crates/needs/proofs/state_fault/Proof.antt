@@ -29,13 +29,17 @@ past c e =
 
 returns-2 : tie.Need-returns-2
 unfolding stateTests doubtfulTooLarge
-returns-2 c = past (c .before .before) (first-hit 18 _ _ (lt-ltb _ _ (c .if2 .taken)))
+returns-2 c =
+    let l : 24 < c .before .before .before .before .args .state .doubtful = omega (arith, c .if2 .taken) in
+    past (c .before .before) (first-hit 18 _ _ (lt-ltb _ _ l))
 
 -- past 18 too
 past-count : (c : tie.Else2) {a : Answer} → a ≡ first (drop 2 (T (c .before .before .before .before)))
     → a ≡ first (T (c .before .before .before .before))
 unfolding stateTests doubtfulTooLarge
-past-count c e = past (c .before .before) (first-skip _ _ (le-ltb _ _ (c .if2 .left)) e)
+past-count c e =
+    let l : c .before .before .before .before .args .state .doubtful ≤ 24 = omega (arith, c .if2 .left) in
+    past (c .before .before) (first-skip _ _ (le-ltb _ _ l) e)
 
 returns-3 : tie.Need-returns-3
 unfolding stateTests placeTooLarge

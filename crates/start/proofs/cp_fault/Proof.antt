@@ -1,6 +1,6 @@
 -- The stage of the record, that of the line state, then test 17. Assumes nothing.
 use mathlib.Core.Path.{_≡_, sym, ap, _∙_}
-use Prim.Native.Nat.{ℕ, _+_, _<_}
+use Prim.Native.Nat.{ℕ, _+_, _≤_, _<_}
 use mathlib.Core.List.{List, [], _∷_, _++_}
 use native.Mathlib.Omega.{arith}
 use borrow.Author.Needs.{needs}
@@ -83,12 +83,16 @@ needed c =
     ∙ sym (length-cpAndEnd (c .before .before .before .before .before .before .before .before .args .r))
 
 returns-3 : tie.Need-returns-3
-returns-3 c = past-state (c .before .before .before) (first-hit 17 _ _ (lt-ltb _ _ (rw (needed (c .before)) at (c .if1 .taken))))
+returns-3 c =
+    let begun = c .before .before .before .before .before .before .before .before .before .args in
+    let short : begun .room < length (cpAndEnd (begun .r)) = omega (arith, needed (c .before)) in
+    past-state (c .before .before .before) (first-hit 17 _ _ (lt-ltb _ _ short))
 
 returns-4 : tie.Need-returns-4
 returns-4 c =
-    past-state (c .before .before .before)
-    (first-skip _ _ (le-ltb _ _ (rw (needed (c .before)) at (c .if1 .left))) (sym (first-none [] tt)))
+    let begun = c .before .before .before .before .before .before .before .before .before .args in
+    let enough : length (cpAndEnd (begun .r)) ≤ begun .room = omega (arith, needed (c .before)) in
+    past-state (c .before .before .before) (first-skip _ _ (le-ltb _ _ enough) (sym (first-none [] tt)))
 
 pub cp-fault-spec : {M : Type 1} → statement M
 cp-fault-spec =

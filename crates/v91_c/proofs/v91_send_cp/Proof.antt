@@ -26,8 +26,8 @@ lent c = both-long _ _ (sym (c .before .lent-short .ensures) ∙ c .if1 .left)
 abbrev tested : tie.After-send-cp → tie.Else1
 tested c = c .before .before .before .before .before .before
 
-cast-count : tie.Need-cast-count
-cast-count c =
+cast-total : tie.Need-cast-total
+cast-total c =
     let entry = c .before .before .before in
     let a = begun (tested entry) .args in
     omega (
@@ -71,7 +71,7 @@ v91-send-cp-spec =
     (λ c κs. lent (c .before .before) .1)
     (λ c κs. search needs)
     (λ c κs. search needs)
-    cast-count
+    cast-total
     (λ c κs. search needs)
     (λ c. search needs)
     (λ c. search needs)

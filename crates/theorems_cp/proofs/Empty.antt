@@ -17,8 +17,8 @@ use Rattle.standard.specs.Refusals.{emptyTests, rateTests, recordTests, readTes
 use Rattle.standard.specs.declared.LineState.{LineState}
 use Rattle.standard.specs.declared.Record.{Record}
 use Rattle.standard.proofs.Refusals.{empty-too-small, empty-lowest}
-use Rattle.theorems.specs.Examples.{emptyTwice}
-use Rattle.theorems.specs.Empty.{without, InPlaceOf11, EmptyTold}
+use Rattle.theorems_cp.specs.Examples.{emptyTwice}
+use Rattle.theorems_cp.specs.Empty.{without, InPlaceOf11, EmptyTold}
 
 -- ts answers as us, or 25 where us answers 11
 abbrev Told : List Test → List Test → Type 0

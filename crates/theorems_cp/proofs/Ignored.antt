@@ -19,7 +19,7 @@ use Rattle.standard.specs.declared.Record.{Record}
 use Rattle.standard.proofs.Lists.{listFrom-ext, every, every-at, and-left, and-right, T→true, largest-ext}
 use Rattle.standard.proofs.Bits.{field-ext}
 use Rattle.standard.proofs.Crc.{crcOver-ext}
-use Rattle.theorems.specs.Ignored.{topRead, SameBit, SameButFill, SameButIgnored, SameCount, SameMatch, SameRead, ReaderIgnores}
+use Rattle.theorems_cp.specs.Ignored.{topRead, SameBit, SameButFill, SameButIgnored, SameCount, SameMatch, SameRead, ReaderIgnores}
 
 any-ext : (f f′ : ℕ → Bool) (i n : ℕ) → ((k : ℕ) → i ≤ k → k < i + n → f k ≡ f′ k) → any f i n ≡ any f′ i n
 unfolding any

@@ -11,7 +11,7 @@ use Rattle.standard.specs.Dil.{segmentLength, symbolSign, symbolUcode, segment,
 use Rattle.standard.specs.declared.Law.{Law}
 use Rattle.standard.proofs.Lists.{every-at, beq→eq}
 use Rattle.standard.proofs.Dil.{trainingSymbol, generated-is, length-defaultDil, defaultDil-at}
-use Rattle.theorems.specs.Dil.{DilTold}
+use Rattle.theorems_cp.specs.Dil.{DilTold}
 
 -- the bits of SP: six zeros, then six ones
 six-and-six : (k : ℕ) → k < 12 → bit 0x0fc0 k ≡ leb 6 k

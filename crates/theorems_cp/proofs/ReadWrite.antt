@@ -26,7 +26,7 @@ use Rattle.standard.proofs.Bits.{odd-weight, field-bit, bytesOf-ext, bytes-back
 use Rattle.standard.proofs.Crc.{crcOver-ext}
 use Rattle.standard.proofs.Cp.{covered, cp-body, cp-head, cp-mask, cp-crc, cp-zero}
 use Rattle.standard.proofs.Refusals.{top-lt, zero-half, read-numbered, applied}
-use Rattle.theorems.specs.RoundTrip.{IgnoredZero, ReadThenWrite}
+use Rattle.theorems_cp.specs.RoundTrip.{IgnoredZero, ReadThenWrite}
 
 or-true : (a b : Bool) → T (a || b) → (a ≡ true) ⊎ (T b)
 or-true true b t = inl refl

@@ -32,8 +32,8 @@ use Rattle.standard.proofs.Constellation.{label-below}
 use Rattle.standard.proofs.Modulus.{within-listFrom, number-lt}
 use Rattle.standard.proofs.Octets.{ucode-lt}
 use Rattle.standard.proofs.Frame.{mark-zero}
-use Rattle.theorems.specs.Examples.{all, table, full, emptyTwice, ExamplesHold}
-use Rattle.theorems.proofs.Fewer.{one-fewer}
+use Rattle.theorems_cp.specs.Examples.{all, table, full, emptyTwice, ExamplesHold}
+use Rattle.theorems_cp.proofs.Fewer.{one-fewer}
 
 rows-hold : all table ≡ true
 unfolding table listFrom any largest parts joined each after first bitAt bitsIn field bytesOf nth numberOf bitsOf topIndex inMask crcStep

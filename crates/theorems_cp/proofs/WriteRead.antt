@@ -26,7 +26,7 @@ use Rattle.standard.proofs.Bits.{field-ext, field-is, field-number, bitAt-bytes
 use Rattle.standard.proofs.Crc.{crcOver-lt, crcOver-ext}
 use Rattle.standard.proofs.Cp.{covered, bitIn-none, cp-body, cp-head, cp-mask, cp-crc, cp-zero}
 use Rattle.standard.proofs.Refusals.{index-le, top-lt, half-zero, write-numbered}
-use Rattle.theorems.specs.RoundTrip.{Shaped, WriteThenRead}
+use Rattle.theorems_cp.specs.RoundTrip.{Shaped, WriteThenRead}
 
 bit-weight : (b : Bool) → bit (weight b) 0 ≡ b
 bit-weight true = refl

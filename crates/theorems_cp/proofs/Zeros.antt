@@ -20,9 +20,9 @@ use Rattle.standard.specs.declared.Record.{Record}
 use Rattle.standard.proofs.Lists.{every, every-at, T→true}
 use Rattle.standard.proofs.Bits.{length-bytesOf, bitAt-bytes}
 use Rattle.standard.proofs.Cp.{covered, bitIn-none, cp-head, cp-zero}
-use Rattle.theorems.specs.RoundTrip.{IgnoredZero, OnlyWhereZero, cleared, Puts, WriterPuts}
-use Rattle.theorems.proofs.Ignored.{past, none-reserved}
-use Rattle.theorems.proofs.ReadWrite.{or-right, long, write-none}
+use Rattle.theorems_cp.specs.RoundTrip.{IgnoredZero, OnlyWhereZero, cleared, Puts, WriterPuts}
+use Rattle.theorems_cp.proofs.Ignored.{past, none-reserved}
+use Rattle.theorems_cp.proofs.ReadWrite.{or-right, long, write-none}
 
 left : (a b : Bool) → b ≡ false → a || b ≡ true → a ≡ true
 left true b p q = refl

@@ -32,7 +32,7 @@ use Rattle.standard.proofs.Refusals.{le-within}
 use Rattle.standard.proofs.Plan.{valuesFrom, in-mask}
 use Rattle.standard.proofs.Plan.{inside-le, points-enough, points-least, size-wanted}
 use Rattle.standard.proofs.Plan.{mask-neighbours, mask-smallest, mask-points, mask-least, mask-only, accepted-mask}
-use Rattle.theorems.specs.Plan.{Inside, Fits, IsLeast, PlanTold}
+use Rattle.theorems_cp.specs.Plan.{Inside, Fits, IsLeast, PlanTold}
 
 module _ (c : PlanCall) where
   abbrev M : ℕ

@@ -23,7 +23,7 @@ use Rattle.standard.proofs.Lists.{getD-list, none-any}
 use Rattle.standard.proofs.First.{None, first-hit, first-skip, first-append, first-left, none-listFrom}
 use Rattle.standard.proofs.Bits.{weight-lt, field-bit}
 use Rattle.standard.proofs.Constellation.{sizeOf-le, label-below}
-use Rattle.theorems.specs.Examples.{Fewer}
+use Rattle.theorems_cp.specs.Examples.{Fewer}
 
 -- a mask that lacks a Ucode has fewer than all
 lacks : (m : ℕ → Bool) (n u : ℕ) → u < n → m u ≡ false → sizeOf m n < n

@@ -1,0 +1,10 @@
+pub mod Fewer
+pub mod Examples
+pub mod Ignored
+pub mod WriteRead
+pub mod ReadWrite
+pub mod Zeros
+pub mod Empty
+pub mod Lengths
+pub mod Dil
+pub mod Plan
