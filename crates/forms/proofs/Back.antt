@@ -7,17 +7,19 @@ use native.Mathlib.Nat.{zero-add}
 use native.Mathlib.Omega.{arith}
 use borrow.Author.Tests.{lt-ltb, le-ltb}
 use lib.Dec.{lit<}
-use lib.ListN.{getD, List·getD-append}
+use lib.ListN.{length, getD, drop, List·getD-append}
+use lib.Seq.{getD-append-add, getD-drop}
 use Rattle.standard.specs.Lists.{listFrom}
 use Rattle.standard.specs.Bits.{weight, positive, bit, bitAt, field}
 use Rattle.standard.specs.Record.{indexOf, halfOf}
+use Rattle.standard.specs.Calls.{over}
 use Rattle.standard.specs.declared.LineState.{LineState}
 use Rattle.standard.specs.declared.Record.{Record}
-use Rattle.standard.proofs.Lists.{length-listFrom, getD-list, listFrom-is}
+use Rattle.standard.proofs.Lists.{length-listFrom, getD-list, listFrom-is, listFrom-ext}
 use Rattle.standard.proofs.Bits.{field-bit, field-is, field-number}
 use Rattle.forms.specs.RecordBytes.{recordByte, recordBytes, indexAt, halfAt, recordAt}
-use Rattle.forms.specs.StateBytes.{stateByte, stateBytes, sequenceByte, stateAt}
-use Rattle.forms.specs.Back.{StateBack, RecordBack}
+use Rattle.forms.specs.StateBytes.{stateByte, stateBytes, lineBytes, sequenceByte, stateAt}
+use Rattle.forms.specs.Back.{StateBack, LineBack, RecordBack}
 use Rattle.forms.proofs.Into.{half-byte}
 
 -- element k of n listed ones with more behind them
@@ -80,6 +82,33 @@ state-back st t h twelve =
     let sign = ap positive (byte 4 (lit< tt)) ∙ positive-weight (st .sign) in
     let lost = ap positive (byte 20 (lit< tt)) ∙ positive-weight (st .lost) in
     rw (history, sign, byte 5 (lit< tt), byte 6 (lit< tt), byte 7 (lit< tt), sequence, lost) refl
+
+module _ (st : LineState) (s : List ℕ) where
+  abbrev begins : List ℕ
+  begins = over (lineBytes st) s
+
+  line-byte : (k : ℕ) → k < 5 → getD begins k 0 ≡ stateByte st k
+  unfolding lineBytes
+  line-byte k h = listed-at (stateByte st) 5 (drop (length (lineBytes st)) s) k h
+
+  later-byte : (k : ℕ) → getD begins (5 + k) 0 ≡ getD s (5 + k) 0
+  unfolding lineBytes
+  later-byte k =
+      let five : length (lineBytes st) ≡ 5 = length-listFrom (stateByte st) 0 5 in
+      ap (λ (n : ℕ). getD begins (n + k) 0) (sym five)
+      ∙ getD-append-add (lineBytes st) (drop (length (lineBytes st)) s) k 0
+      ∙ ap (λ (n : ℕ). getD (drop n s) k 0) five
+      ∙ getD-drop 5 s k 0
+
+pub line-back : LineBack
+unfolding stateAt stateByte
+line-back st s h =
+    let history = bytes-hold (begins st s) 0 4 (st .history)
+    (λ q l. ap (λ (x : ℕ). getD (begins st s) x 0) (zero-add q) ∙ line-byte st s q (omega arith) ∙ rw (lt-ltb q 4 l) refl) h in
+    let sign = ap positive (line-byte st s 4 (lit< tt)) ∙ positive-weight (st .sign) in
+    let sequence : listFrom (sequenceByte (begins st s)) 0 12 ≡ listFrom (sequenceByte s) 0 12 = listFrom-ext _ _ 12
+    (λ i l. let e : 5 + (3 + i) ≡ 8 + i = omega arith in rw e at (later-byte st s (3 + i))) in
+    rw (history, sign, later-byte st s 0, later-byte st s 1, later-byte st s 2, sequence, later-byte st s 15) refl
 
 module _ (r : Record) (t : List ℕ) where
   abbrev s : List ℕ

@@ -5,13 +5,20 @@ use Prim.Native.Nat.{ℕ, _^_, _<_}
 use mathlib.Core.List.{List, _++_}
 use lib.ListN.{length}
 use Rattle.standard.specs.Record.{halfOf}
+use Rattle.standard.specs.Start.{withLine}
+use Rattle.standard.specs.Calls.{over}
 use Rattle.standard.specs.declared.Record.{Record}
 use Rattle.standard.specs.declared.LineState.{LineState}
 use Rattle.forms.specs.RecordBytes.{recordBytes, recordAt}
-use Rattle.forms.specs.StateBytes.{stateBytes, stateAt}
+use Rattle.forms.specs.StateBytes.{stateBytes, lineBytes, stateAt}
 
 abbrev pub StateBack : Type 0
 StateBack = (st : LineState) (t : List ℕ) → st .history < 2 ^ 32 → length (st .sequence) ≡ 12 → stateAt (stateBytes st ++ t) ≡ st
+
+-- history and last sign in the first bytes: the others are read as they were
+abbrev pub LineBack : Type 0
+LineBack =
+    (st : LineState) (s : List ℕ) → st .history < 2 ^ 32 → stateAt (over (lineBytes st) s) ≡ withLine (stateAt s) (st .history) (st .sign)
 
 abbrev pub RecordBack : Type 0
 RecordBack =

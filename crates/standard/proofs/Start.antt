@@ -3,7 +3,7 @@ use mathlib.Core.Path.{_≡_, refl, sym, ap, ap₂, _∙_}
 use Prim.Native.Nat.{ℕ, _+_, _-_, _^_, _≤_, _<_}
 use mathlib.Core.Bool.{Bool, false}
 use mathlib.Core.List.{List, [], _∷_, _++_, map}
-use native.Mathlib.Nat.{mod-eq-of-lt}
+use native.Mathlib.Nat.{mod-eq-of-lt, not-suc-le-zero}
 use native.Mathlib.Omega.{arith}
 use lib.Dec.{lit<}
 use lib.ListN.{length, take, drop, length-append, length-drop, length-map, take-append-drop}
@@ -66,6 +66,14 @@ length-cpAndEnd r =
     length-append (listFrom (cpBit r) 0 (cpLength (topIndex r))) endOfCp
     ∙ ap (λ (n : ℕ). n + 12) (length-listFrom (cpBit r) 0 (cpLength (topIndex r)))
 
+-- a history that bits left has 23 bits
+pub left-lt : (st : LineState) (ds : List Bool) → 0 < length ds → leftBy st ds .history < 2 ^ 23
+unfolding leftBy scramble pushAll
+left-lt st [] h = absurd (not-suc-le-zero h)
+left-lt st (d ∷ ds) h =
+    let after = push (st .history) (scrambledBit st d) in
+    pushAll-lt after (scramble after ds) (push-lt (st .history) (scrambledBit st d))
+
 -- ---- bits that follow others
 
 pub octets-append : (l : Law) (st : LineState) (a b : List Bool) → octetsFor l st (a ++ b) ≡ octetsFor l st a ++ octetsFor l (leftBy st a) b
@@ -96,6 +104,10 @@ signs-read l st ds = go (signsFor st ds)
     go : (ts : List Bool) → map signOf (map (λ s. octet l s 66) ts) ≡ ts
     go [] = refl
     go (t ∷ ts) = ap₂ _∷_ (sign-back l t 66 (lit< tt)) (go ts)
+
+pub found-lt : (os : List ℕ) → foundHistory os < 2 ^ 23
+unfolding foundHistory
+found-lt os = pushAll-lt 0 (bitsBetween (map signOf os)) (lit< tt)
 
 -- from 24 octets or more, begun in any state
 module _ (l : Law) (st : LineState) (d : Bool) (ds : List Bool) (n : 23 ≤ length ds) where

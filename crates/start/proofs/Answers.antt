@@ -1,7 +1,7 @@
 -- What the entries answer. Assumes nothing.
 use mathlib.Core.Path.{_≡_, refl, sym, ap, ap₂, _∙_}
 use Prim.Native.Nat.{ℕ, _-_, _^_, _≤_, _<_}
-use mathlib.Core.Bool.{Bool, true}
+use mathlib.Core.Bool.{Bool}
 use mathlib.Core.List.{List, _++_}
 use native.Mathlib.Omega.{arith}
 use borrow.Author.Tests.{lt-ltb, le-ltb, ltb-false, leb-false}
@@ -14,7 +14,7 @@ use Rattle.standard.specs.Record.{topIndex}
 use Rattle.standard.specs.Cp.{cpLength, cpByteCount, cpBit, cpBytes}
 use Rattle.standard.specs.Start.{withLine, endOfCp, cpAndEnd, octetsFor, leftBy, foundHistory, foundSign, foundIn}
 use Rattle.standard.specs.Refusals.{outcomeAnswer, historyTooLarge, shorter, recordTests, stateTests, sendCpTests}
-use Rattle.standard.specs.Calls.{accepted, cpCall, sendCpRefusal, sendCpCount, sendCpOctets, sendCpLeft, findRefusal, findLeft}
+use Rattle.standard.specs.Calls.{cpCall, sendCpRefusal, sendCpCount, sendCpOctets, sendCpLeft, findRefusal, findLeft}
 use Rattle.standard.specs.declared.Law.{Law}
 use Rattle.standard.specs.declared.LineState.{LineState}
 use Rattle.standard.specs.declared.Outcome.{Outcome}

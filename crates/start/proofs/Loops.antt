@@ -1,6 +1,6 @@
 -- The loops' turns. Assumes nothing.
 use mathlib.Core.Path.{_≡_, refl, sym, ap, ap₂, _∙_}
-use Prim.Native.Nat.{ℕ, zero, suc, _+_, _-_, _^_, _≤_, _<_}
+use Prim.Native.Nat.{ℕ, suc, _+_, _-_, _^_, _<_}
 use mathlib.Core.Bool.{Bool, false, not, _&&_, Bool·beq}
 use mathlib.Core.List.{List, [], _∷_, _++_, map, append-nil}
 use native.Mathlib.Decide.{decLt}
@@ -9,10 +9,10 @@ use native.Mathlib.Numerals.{add-one}
 use native.Mathlib.Omega.{arith}
 use borrow.Author.Tests.{lt-ltb, le-ltb}
 use lib.Dec.{ltb, lit<}
-use lib.ListN.{length, getD, set, drop, length-set, length-append, length-map, length-replicate, drop-of-length-le, List·getD-append}
-use lib.ListN.{List·getD-eq-default, List·getD-map, getD-replicate}
+use lib.ListN.{length, getD, set, drop, length-set, length-append, length-map, drop-of-length-le, List·getD-append}
+use lib.ListN.{List·getD-map, getD-replicate}
 use lib.Seq.{drop-cons, getD-append-add}
-use Rattle.standard.specs.Lists.{listFrom, lastOr}
+use Rattle.standard.specs.Lists.{lastOr}
 use Rattle.standard.specs.Bits.{_⊕_, bitAt, bitsIn, nth}
 use Rattle.standard.specs.Scrambler.{taps, push, pushAll}
 use Rattle.standard.specs.Signs.{signBits}
@@ -20,9 +20,9 @@ use Rattle.standard.specs.Octets.{octet, signOf}
 use Rattle.standard.specs.Start.{withLine, endOfCp, octetsFor, leftBy, bitsBetween, foundHistory, foundSign}
 use Rattle.standard.specs.declared.Law.{Law}
 use Rattle.standard.specs.declared.LineState.{LineState}
-use Rattle.standard.proofs.Lists.{length-listFrom, getD-list, listFrom-is}
+use Rattle.standard.proofs.Lists.{getD-list, listFrom-is}
 use Rattle.standard.proofs.Bits.{length-bitsIn}
-use Rattle.standard.proofs.Filling.{listed-none, listed-more, listed-all}
+use Rattle.standard.proofs.Filling.{listed-none, listed-more}
 use Rattle.standard.proofs.Scrambler.{push-lt}
 use Rattle.standard.proofs.Words.{xor-test}
 use Rattle.standard.proofs.Start.{afterBit, octets-cons, left-cons, left-none, length-octetsFor}

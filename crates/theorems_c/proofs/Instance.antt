@@ -1,5 +1,5 @@
 -- An instance of the premises of demand 3, of A.1 and of A.2 for the C functions, with the control channel on: a short record, a call of no
--- frames, 7 bytes for what is heard and a flag byte of 2 beside accepted calls. Assumes nothing.
+-- frames, 7 bytes for what is heard and a flag byte of 2 beside accepted calls; and one of A.3's. Assumes nothing.
 use mathlib.Core.Path.{_≡_, refl, sym}
 use mathlib.Core.Logic.{inl, inr}
 use Prim.Native.Nat.{ℕ}
@@ -7,11 +7,12 @@ use mathlib.Core.Bool.{true, false, true≢false}
 use mathlib.Core.List.{List, [], _∷_}
 use lib.Dec.{lit≤}
 use lib.ListN.{take, replicate}
-use Rattle.standard.specs.Lists.{listFrom, any, largest, parts, joined, each, after}
+use Rattle.standard.specs.Lists.{listFrom, any, largest, parts, lastOr, lastOf, joined, each, after}
 use Rattle.standard.specs.First.{first}
 use Rattle.standard.specs.Bits.{bitAt, bitsIn, field, bytesOf, nth, numberOf, bitsOf}
 use Rattle.standard.specs.Record.{topIndex, inMask}
 use Rattle.standard.specs.Crc.{crcStep, crcOver}
+use Rattle.standard.specs.Cp.{cpCrc, bitIn, headFields, maskFields, cpBody, crcField, cpBit}
 use Rattle.standard.specs.Scrambler.{taps, push, pushAll, scramble}
 use Rattle.standard.specs.Constellation.{sizeOf, labelOf, pointOf, member, sizes}
 use Rattle.standard.specs.Modulus.{product, labels, number}
@@ -21,20 +22,23 @@ use Rattle.standard.specs.Control.{slipPattern, sequenceCrc, patternWrong, crcW
 use Rattle.standard.specs.Frame.{dataBits, sequenceSent, controlBits, lineBits, frameSigns, frameLabels, frameOctets, sendFrame, sendNext}
 use Rattle.standard.specs.Frame.{receivedNumber, outsideTest, outsideTests, markTests, mark, heardBits, heardControl}
 use Rattle.standard.specs.Frame.{sequenceSoFar, lostSoFar, saidIn, receiveNext, outgoingFrames, sendFrames, sendAfter, incomingFrames}
+use Rattle.standard.specs.Start.{cpAndEnd, signsFor, octetsFor, leftBy, bitsBetween, foundHistory, foundSign, foundIn}
 use Rattle.standard.specs.Refusals.{indexTooLarge, drnTooLarge, grantedBelowFullRate, intervalEmpty, productTooSmall, maskAboveIndices}
 use Rattle.standard.specs.Refusals.{framesAtCleardown, historyTooLarge, doubtfulTooLarge, placeTooLarge, tooManyFrames, emptyTest}
-use Rattle.standard.specs.Refusals.{emptyTests, rateTests, recordTests, stateTests, lineTests, bufferTests, frameTests}
-use Rattle.standard.specs.Calls.{sendRefusal, sendBits, sendLeft, sendOctets, receiveRefusal}
+use Rattle.standard.specs.Refusals.{emptyTests, rateTests, recordTests, stateTests, lineTests, bufferTests, frameTests, sendCpTests}
+use Rattle.standard.specs.Calls.{sendRefusal, sendBits, sendLeft, sendOctets, receiveRefusal, sendCpRefusal, sendCpCount, sendCpOctets}
+use Rattle.standard.specs.Calls.{sendCpLeft, findRefusal, findLeft}
 use Rattle.standard.specs.declared.Law.the-variants.{Mu}
 use Rattle.theorems_cp.specs.Examples.{common}
 use Rattle.theorems.specs.Runs.{overCalls, AllCalls, clean, Carried, Delivered}
 use Rattle.theorems.specs.Counts.{Counted}
 use Rattle.forms.specs.RecordBytes.{recordByte, recordBytes, recordAt}
-use Rattle.forms.specs.StateBytes.{stateByte, stateBytes, stateAt}
+use Rattle.forms.specs.StateBytes.{stateByte, stateBytes, lineBytes, stateAt}
 use Rattle.forms.specs.HeardBytes.{saidKind, saidBits, heardByte, heardBytes}
-use Rattle.v91_c.specs.Interface.{answered, frameAnswer, stateLeft, v91Send, thenShort, v91Receive}
+use Rattle.v91_c.specs.Interface.{answered, frameAnswer, stateLeft, v91Send, thenShort, v91Receive, v91SendCp, v91FindState}
 use Rattle.theorems_c.specs.Runs.{CSend, cSent, cMessage, cSendChoices, CSendsWith, CReceive, cReceiveLeft, cOctetsRead, cHandedOver}
 use Rattle.theorems_c.specs.Runs.{cMarksGiven, cReceiveChoices, cFramesRead, cStateBefore, CReceivesWith, CRun, cSaidAt, cSaidGiven}
+use Rattle.theorems_c.specs.Start.{CSendCp, CStart}
 use Rattle.theorems_c.proofs.Runs.{c-runs, c-counts, c-said}
 
 abbrev send : List ℕ → ℕ → List ℕ → CSend
@@ -113,3 +117,19 @@ unfolding listFrom any largest parts joined each after first bitAt bitsIn field 
     bufferTests frameTests receiveRefusal overCalls recordByte recordBytes recordAt stateAt saidKind saidBits heardByte heardBytes answered
     frameAnswer thenShort v91Receive cFramesRead cSaidAt
 instance-said = c-said common Mu start receiving (instance .receiver)
+
+-- A.3's premises: a CP and E_s from the zero state, in mu-law, heard behind two other octets by an end that began elsewhere
+abbrev cp : CSendCp
+cp = record { rec = recordBytes common; aLaw = false; octets = replicate 306 9 }
+
+abbrev left : List ℕ
+left = 0x49 ∷ 0x8f ∷ 0x72 ∷ replicate 18 0
+
+pub instance-started : CStart (replicate 21 0) (5 ∷ 0 ∷ 0 ∷ 0 ∷ 2 ∷ replicate 16 0) left left cp (1 ∷ 2 ∷ [])
+unfolding listFrom any largest lastOr lastOf first bitAt field topIndex inMask taps push pushAll scramble sizeOf member sizes product signsOf
+    signBits positiveOctet octet signOf crcStep crcOver cpCrc bitIn headFields maskFields cpBody crcField cpBit cpAndEnd signsFor octetsFor
+    leftBy bitsBetween foundHistory foundSign foundIn indexTooLarge drnTooLarge grantedBelowFullRate intervalEmpty productTooSmall
+    maskAboveIndices historyTooLarge doubtfulTooLarge placeTooLarge emptyTest emptyTests rateTests recordTests stateTests sendCpTests
+    sendCpRefusal sendCpCount sendCpOctets sendCpLeft findRefusal findLeft recordByte recordBytes recordAt stateByte lineBytes stateAt
+    answered frameAnswer v91SendCp v91FindState
+instance-started = record { sends = refl; left = refl; lent = lit≤ tt; finds = refl }

@@ -145,7 +145,7 @@ record Steps {X : Type 0} (answer : X → ℕ) (state : X → List ℕ) (s : Lis
   kept : eqb (answer x) 0 ≡ false → stateAt (state x) ≡ stateAt s
 
 -- an accepted call is one where neither the record nor the state is short and that the entry accepts
-entry-took : (rec s : List ℕ) (a : Answer) → accepted (frameAnswer rec s a) ≡ true → accepted a ≡ true
+pub entry-took : (rec s : List ℕ) (a : Answer) → accepted (frameAnswer rec s a) ≡ true → accepted a ≡ true
 entry-took rec s a = go (ltb (length rec) recordLength || ltb (length s) stateLength) refl
   where
     go : (b : Bool) → (ltb (length rec) recordLength || ltb (length s) stateLength) ≡ b → accepted (frameAnswer rec s a) ≡ true

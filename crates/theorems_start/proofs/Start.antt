@@ -1,6 +1,6 @@
 -- A.3: what is found is what was left, so demand 3 has no bit to except at the start. Assumes nothing.
 use mathlib.Core.Path.{_≡_, refl, sym, ap, _∙_}
-use mathlib.Core.Logic.{_⊎_, inl}
+use mathlib.Core.Logic.{inl}
 use Prim.Native.Nat.{ℕ, _+_, _≤_}
 use mathlib.Core.Bool.{Bool, true, false}
 use mathlib.Core.List.{List, [], _++_}
@@ -8,17 +8,14 @@ use native.Mathlib.Omega.{arith}
 use borrow.Author.Tests.{le-ltb}
 use lib.ListN.{length, drop, length-append}
 use lib.Seq.{take-at}
-use Rattle.standard.specs.Lists.{lastOf}
 use Rattle.standard.specs.First.{bare, first}
-use Rattle.standard.specs.Record.{topIndex}
-use Rattle.standard.specs.Cp.{cpLength}
-use Rattle.standard.specs.Start.{cpAndEnd, octetsFor, leftBy, foundHistory, foundSign, foundFrom, foundIn}
-use Rattle.standard.specs.Calls.{accepted, CpCall, sendCpRefusal, sendCpCount, sendCpOctets, sendCpLeft, findRefusal, findLeft}
+use Rattle.standard.specs.Start.{cpAndEnd, octetsFor, leftBy, foundHistory, foundSign, foundIn}
+use Rattle.standard.specs.Calls.{accepted, CpCall, sendCpCount, sendCpOctets, sendCpLeft, findRefusal, findLeft}
 use Rattle.standard.specs.declared.LineState.{LineState}
 use Rattle.standard.proofs.Start.{length-octetsFor, length-cpAndEnd, state-follows}
 use Rattle.theorems.specs.Runs.{Same}
 use Rattle.theorems.proofs.Runs.{runs}
-use Rattle.theorems_start.specs.Start.{sendsCp, cpSent, OthersKept, StatesFollow, FromTheFirst, StartDelivers}
+use Rattle.theorems_start.specs.Start.{sendsCp, cpSent, OthersKept, StatesFollow, StartDelivers}
 
 -- ---- an accepted call
 

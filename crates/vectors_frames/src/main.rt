@@ -19,7 +19,7 @@ use standard::Law;
 use standard::LineState;
 use standard::Record;
 use text::calls;
-ghost use Prim.Native.Nat.{_+_, _*_, _%_, _<_, _≤_};
+ghost use Prim.Native.Nat.{_+_, _*_, _<_, _≤_};
 ghost use lib.ListN.{length};
 
 // What calls of the sender and of the receiver have in common.

@@ -1,5 +1,5 @@
 -- Fewer than 24 octets, and the last 24 of them. Assumes nothing.
-use mathlib.Core.Path.{_≡_, _∙_}
+use mathlib.Core.Path.{_∙_}
 use native.Mathlib.Omega.{arith}
 use borrow.Author.Needs.{needs}
 use Rattle.start.proofs.Answers.{find-refused, find-done, part-last}

@@ -1,11 +1,10 @@
 -- One weight up, and the bit below. Assumes nothing.
-use mathlib.Core.Path.{ap, _∙_}
+use mathlib.Core.Path.{ap}
 use Prim.Native.Nat.{ℕ, _+_, _*_, _%_, _^_}
 use native.Mathlib.Omega.{arith}
 use borrow.Author.Needs.{needs}
 use Rattle.standard.specs.Scrambler.{push}
 use Rattle.standard.proofs.Bits.{weight-lt}
-use Rattle.standard.proofs.Scrambler.{push-lt}
 use Rattle.standard.proofs.Words.{byte-weight}
 use Rattle.start.proofs.push.Statement.{statement}
 use Rattle.start.proofs.push.Tie as tie
