@@ -8,19 +8,18 @@ use native.Mathlib.Omega.{arith}
 use borrow.Author.Tests.{lt-ltb, le-ltb, leb-true, ltb-true}
 use lib.Dec.{leb, ltb, lit<}
 use lib.ListN.{length}
-use Rattle.standard.specs.Lists.{listFrom, lastOf}
+use Rattle.standard.specs.Lists.{listFrom}
 use Rattle.standard.specs.First.{Answer, bare, Test, first}
-use Rattle.standard.specs.Start.{cpAndEnd, foundFrom, foundIn}
+use Rattle.standard.specs.Start.{cpAndEnd}
 use Rattle.standard.specs.Refusals.{shorter, emptyTest, emptyTests, rateTests, recordTests, stateTests, sendCpTests}
 use Rattle.standard.specs.Calls.{accepted, CpCall, cpCall, sendCpRefusal, sendCpLeft, findRefusal}
 use Rattle.standard.specs.Calls.{findLeft}
 use Rattle.standard.specs.declared.LineState.{LineState}
 use Rattle.standard.specs.declared.Record.{Record}
 use Rattle.standard.proofs.Lists.{and-both, of-either}
-use Rattle.standard.proofs.Start.{length-cpAndEnd, left-lt, found-lt}
 use Rattle.theorems.specs.Runs.{Same}
 use Rattle.theorems_start.specs.Start.{sendsCp, cpSent}
-use Rattle.theorems_start.proofs.Start.{states-follow}
+use Rattle.theorems_start.proofs.Start.{left-small, found-small, states-follow}
 use Rattle.forms.specs.Coded.{coded}
 use Rattle.forms.specs.RecordBytes.{recordAt}
 use Rattle.forms.specs.StateBytes.{stateLength, stateAt}
@@ -85,29 +84,21 @@ module _ (s : List ℕ) (c : CSendCp) where
     unfolding v91SendCp answered cpSent
     sent-is = rw (counted e) refl
 
-    left-small : sendCpLeft (stateAt s) call .history < 2 ^ 23
-    unfolding sendCpLeft
-    left-small = rw took (left-lt (stateAt s) (cpAndEnd r) (omega (arith, length-cpAndEnd r)))
-
     pub left-held : Same (stateAt (afterSendCp s c .state)) (sendCpLeft (stateAt s) call)
     unfolding v91SendCp answered
     left-held =
         let left = sendCpLeft (stateAt s) call in
-        let back = line-back left s (omega (arith, left-small)) in
+        let back = line-back left s (omega (arith, left-small (stateAt s) call took)) in
         rw (counted e) (ap (λ (z : LineState). z .history) back, ap (λ (z : LineState). z .sign) back)
 
 -- ---- v91_find_state
 
 module _ (heard t : List ℕ) (lent : stateLength ≤ length t) (e : findRefusal heard ≡ bare 0) where
-  found-small : findLeft (stateAt t) heard .history < 2 ^ 23
-  unfolding findLeft foundIn
-  found-small = rw e (found-lt (lastOf foundFrom heard))
-
   found-held : Same (stateAt (v91FindState heard t .state)) (findLeft (stateAt t) heard)
   unfolding v91FindState answered first
   found-held =
       let left = findLeft (stateAt t) heard in
-      let back = line-back left t (omega (arith, found-small)) in
+      let back = line-back left t (omega (arith, found-small (stateAt t) heard e)) in
       rw (le-ltb (length t) stateLength lent, e) (ap (λ (z : LineState). z .history) back, ap (λ (z : LineState). z .sign) back)
 
 -- ---- from CP into data
@@ -126,4 +117,10 @@ c-start-delivers s t u v c earlier r l sending receiving w line m start run =
       left .1 ∙ follows .1 .1 ∙ sym (found .1),
     ) in
     let got = c-runs r l u v sending receiving w line m run in
-    record { whole = λ z. got .whole z same; asSent = λ p h k. got .asSent p h k (inl same); marks = got .marks }
+    record {
+      held = got .held;
+      count = got .count;
+      whole = λ z. got .whole z same;
+      asSent = λ p h k. got .asSent p h k (inl same);
+      marks = got .marks;
+    }

@@ -1,13 +1,14 @@
 -- Document 02, A.3: the state that a CP and E_s leave is the one that the far end finds, and demand 3 from there on. Assumes nothing.
 use mathlib.Core.Path.{_≡_}
-use Prim.Native.Nat.{ℕ, _<_}
-use mathlib.Core.Bool.{Bool, true}
+use Prim.Native.Nat.{ℕ, _≤_, _<_}
+use mathlib.Core.Bool.{Bool, true, false}
 use mathlib.Core.List.{List, _++_}
-use lib.ListN.{getD, take}
+use lib.ListN.{length, getD, take}
 use Rattle.standard.specs.Lists.{lastOf}
 use Rattle.standard.specs.First.{bare}
 use Rattle.standard.specs.Bits.{nth}
 use Rattle.standard.specs.Start.{foundFrom}
+use Rattle.standard.specs.Refusals.{historyTooLarge}
 use Rattle.standard.specs.Calls.{accepted, CpCall, sendCpRefusal, sendCpCount, sendCpOctets, sendCpLeft, findRefusal, findLeft, SendCall}
 use Rattle.standard.specs.Calls.{ReceiveCall}
 use Rattle.standard.specs.declared.Law.{Law}
@@ -39,6 +40,9 @@ pub record StatesFollow : Type 0 where
   -- 'so the far end can find them', in any state of its own, and whatever it heard before
   pub found : (s t : LineState) (c : CpCall) (earlier : List ℕ) → sendsCp s c ≡ true
       → (findRefusal (earlier ++ cpSent s c) ≡ bare 0) × Same (sendCpLeft s c) (findLeft t (earlier ++ cpSent s c))
+  -- neither state gets 14
+  pub leftFits : (s : LineState) (c : CpCall) → sendsCp s c ≡ true → historyTooLarge (sendCpLeft s c) ≡ false
+  pub foundFits : (t : LineState) (heard : List ℕ) → findRefusal heard ≡ bare 0 → historyTooLarge (findLeft t heard) ≡ false
   pub leftOthers : (s : LineState) (c : CpCall) → OthersKept s (sendCpLeft s c)
   pub foundOthers : (t : LineState) (heard : List ℕ) → OthersKept t (findLeft t heard)
 
@@ -53,7 +57,10 @@ pub record Start (s t u v : LineState) (c : CpCall) (earlier : List ℕ) : Type 
 
 -- what then holds, of the choices, the message, the bits handed over and the marks
 pub record FromTheFirst (r : Record) (w : Damage) (u : LineState) (m : ℕ) (on given out : List Bool) (marked : List ℕ) : Type 0 where
-  -- a line that changes nothing gives back all bits of the frames that were read
+  -- as many bits as the message has in the frames that were read
+  pub held : begins r u on m ≤ length given
+  pub count : length out ≡ begins r u on m
+  -- a line that changes nothing gives back all of them
   pub whole : w ≡ clean → out ≡ take (begins r u on m) given
   -- one that changes frames a to b harms those and the 24 bits after them alone: no bit at the start
   pub asSent : (p : ℕ) → p < begins r u on m → Beyond w (begins r u on) p → nth out p ≡ nth given p
