@@ -1,12 +1,17 @@
-// What the calls of the vectors have in common: a law and a length in bytes, a buffer filled before a call, and the refusal and the line state in a reply.
+// What the calls of the vectors have in common: a law and a length in bytes, a buffer filled before a call, and a refusal in a reply.
 use standard::Law;
-use standard::LineState;
 use standard::Outcome;
-ghost use Prim.Native.Nat.{_<_, _≤_};
+ghost use mathlib.Core.Path.{_≡_};
+ghost use Prim.Native.Nat.{_+_, _*_, _<_, _≤_};
 ghost use lib.ListN.{length};
+ghost use Rattle.standard.specs.Lists.{listFrom};
+ghost use Rattle.standard.specs.Refusals.{outcomeAnswer};
+ghost use Rattle.cases.specs.Cases.{lawOf, filling, withRefusal};
 
 // The law of a number.
-pub fn law_of(number: u8) -> Law {
+pub fn law_of(number: u8) -> Law
+    ensures { λ l. ⌜ l ≡ lawOf number ⌝ }
+{
     if number == 0 {
         return Law::Mu;
     }
@@ -15,7 +20,7 @@ pub fn law_of(number: u8) -> Law {
 
 // The number of two bytes.
 pub fn two(low: u8, high: u8) -> usize
-    ensures { λ n. ⌜ n < 65536 ⌝ }
+    ensures { λ n. ⌜ (n ≡ low + 256 * high) × (n < 65536) ⌝ }
 {
     low as usize + 256 * (high as usize)
 }
@@ -23,6 +28,7 @@ pub fn two(low: u8, high: u8) -> usize
 // Fills a buffer: byte i is (first + step * i) mod 256.
 pub fn fill(buffer: &mut [u8], first: usize, step: usize)
     requires { ⌜ (first < 256) × (step < 256) ⌝ }
+    ensures { λ x. ⌜ now (buffer .exit) ≡ listFrom (filling first step) 0 (length (now (buffer .entry))) ⌝ }
 {
     let mut value = first;
     let mut i = 0;
@@ -36,16 +42,9 @@ pub fn fill(buffer: &mut [u8], first: usize, step: usize)
 // Puts the refusal of an outcome: its number and its value, a byte each.
 pub fn put_refusal(outcome: Outcome, reply: &mut [u8])
     requires { ⌜ 2 ≤ length (now reply) ⌝ }
+    ensures { λ x. ⌜ now (reply .exit) ≡ withRefusal (outcomeAnswer outcome) (now (reply .entry)) ⌝ }
 {
-    let code = forms::code_of(outcome) as u64;
-    bits::put_field(reply, 0, 8, code % 256);
-    bits::put_field(reply, 8, 8, code / 0x100_0000);
-}
-
-// Puts the refusal and the state left.
-pub fn put_left(outcome: Outcome, state: LineState, reply: &mut [u8])
-    requires { ⌜ 23 ≤ length (now reply) ⌝ }
-{
-    put_refusal(outcome, reply);
-    forms::state_into(state, &mut reply[2..]);
+    let code = forms::code_of(outcome);
+    reply[0] = (code % 256) as u8;
+    reply[1] = (code / 0x100_0000) as u8;
 }

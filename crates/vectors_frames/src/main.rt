@@ -10,13 +10,13 @@
 // `04`, law, length of the samples buffer, octets: by refusal and samples, 4 bytes each in two's complement.
 use cases::fill;
 use cases::law_of;
-use cases::put_left;
 use cases::put_refusal;
 use cases::two;
 use standard::FramesDone;
 use standard::FramesRead;
 use standard::Law;
 use standard::LineState;
+use standard::Outcome;
 use standard::Record;
 use text::calls;
 ghost use Prim.Native.Nat.{_+_, _*_, _<_, _≤_};
@@ -46,6 +46,14 @@ fn setup_at(call: &[u8]) -> Setup
         state,
         control: call[136] != 0,
     }
+}
+
+// Puts the refusal and the state left.
+fn put_left(outcome: Outcome, state: LineState, reply: &mut [u8])
+    requires { ⌜ 23 ≤ length (now reply) ⌝ }
+{
+    put_refusal(outcome, reply);
+    forms::state_into(state, &mut reply[2..]);
 }
 
 // Puts the answer of the sender.

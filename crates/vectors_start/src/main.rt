@@ -5,7 +5,6 @@
 // `06`, state, octets: by refusal and state.
 use cases::fill;
 use cases::law_of;
-use cases::put_left;
 use cases::put_refusal;
 use cases::two;
 use standard::CpSent;
@@ -65,7 +64,8 @@ fn answer_find(call: &[u8], reply: &mut [u8]) -> usize
     let found = start::find_state(&call[22..], forms::state_from(&call[1..]));
     let outcome = found.outcome;
     let state = found.state;
-    put_left(outcome, state, reply);
+    put_refusal(outcome, reply);
+    forms::state_into(state, &mut reply[2..]);
     23
 }
 
