@@ -21,6 +21,13 @@ its value, which is the interval for 25 and 0 for all others.
     06  find_state
                   state, octets
                   -> refusal, state
+    07  flip      record, law, state, frame, interval, octets
+                  -> refusal, state, bits, marks, the same again, number of places, places
+
+In a case of flip the receiver reads the octets twice from one state, the channel off, with 6 bytes
+of bits and 1 of marks lent for each frame: as they are, and with the sign of the octet in that
+frame and interval flipped. The places are those of the data bits that change by K and interval
+alone, counted from the first of that frame. All these numbers are 1 byte each.
 
 A buffer of which only the length is given is handed in with the contents `octets_lent`,
 `bits_lent`, `marks_lent` or `samples_lent`. The channel is on where its byte is not 0.
@@ -28,12 +35,13 @@ A buffer of which only the length is given is handed in with the contents `octet
 
 import control
 import cp
+import flip
 import frames
 import linear
 import record
 import start
 
-READ_CP, WRITE_CP, SEND, RECEIVE, LINEAR, SEND_CP, FIND_STATE = range(7)
+READ_CP, WRITE_CP, SEND, RECEIVE, LINEAR, SEND_CP, FIND_STATE, FLIP = range(8)
 
 
 def octets_lent(length):
@@ -117,6 +125,12 @@ def find_state_case(octets, state):
     return bytes([FIND_STATE]) + frames.pack_state(state) + octets
 
 
+def flip_case(rec, law, state, frame, interval, octets):
+    """A case of flip."""
+    head = bytes([FLIP]) + record.pack(rec) + bytes([law])
+    return head + frames.pack_state(state) + bytes([frame, interval]) + octets
+
+
 # Cases taken apart and answered
 
 def arguments(case):
@@ -133,6 +147,9 @@ def arguments(case):
         return kind, (rec, law, state, octets_lent(number(form[127:])))
     if kind == FIND_STATE:
         return kind, (form[21:], frames.unpack_state(form[:21]))
+    if kind == FLIP:
+        rec, law, state = record.unpack(form[:105]), form[105], frames.unpack_state(form[106:127])
+        return kind, (rec, law, state, *form[127:129], form[129:])
     rec, law, count = record.unpack(form[:105]), form[105], number(form[106:114])
     head = rec, law, count, frames.unpack_state(form[114:135]), int(form[135] != 0)
     if kind == SEND:
@@ -142,8 +159,20 @@ def arguments(case):
     return kind, (*head, form[140:], *lent)
 
 
+def reading(rec, law, state, octets):
+    """The receiver's arguments in a case of flip."""
+    count = len(octets) // 6
+    return rec, law, count, state, 0, octets, bits_lent(6 * count), marks_lent(count)
+
+
+def receptions(rec, law, state, frame, interval, octets):
+    """What the receiver returns for octets as they are, and with the sign of one flipped."""
+    return [frames.receive(*reading(rec, law, state, line))
+            for line in (octets, flip.flipped(octets, frame, interval))]
+
+
 def outcome(case):
-    """What the entry returns."""
+    """What the entry returns; in a case of flip its two receptions."""
     kind, args = arguments(case)
     if kind == READ_CP:
         return cp.read_cp(*args)
@@ -157,6 +186,8 @@ def outcome(case):
         return start.send_cp(*args)
     if kind == FIND_STATE:
         return start.find_state(*args)
+    if kind == FLIP:
+        return receptions(*args)
     return linear.linear(*args)
 
 
@@ -175,11 +206,32 @@ def held(case):
         return list(start.cp_faults(*args))
     if kind == FIND_STATE:
         return list(start.find_faults(*args))
+    if kind == FLIP:
+        return list(frames.receive_faults(*reading(*args[:3], args[5])))
     return list(linear.faults(*args))
+
+
+def reception_form(refusal, state, heard, bits, marks):
+    """One of the two receptions of a case of flip, in bytes; nothing is heard in it."""
+    return bytes(refusal or (0, 0)) + frames.pack_state(state) + bits + marks
+
+
+def places_form(places):
+    """The number of places and the places, in bytes."""
+    return bytes([len(places), *places])
+
+
+def flip_answer(case):
+    """The answer to a case of flip, in bytes."""
+    rec, _, _, _, interval, _ = arguments(case)[1]
+    runs = b"".join(reception_form(*run) for run in outcome(case))
+    return runs + places_form(flip.changed_places(record.k_of(rec), interval))
 
 
 def answer(case):
     """The answer to a case, in bytes."""
+    if case[0] == FLIP:
+        return flip_answer(case)
     refusal, *rest = outcome(case)
     head = bytes(refusal or (0, 0))
     if case[0] == READ_CP:

@@ -11,15 +11,16 @@ from collections import namedtuple
 
 import control
 from cp import write_cp
-from describe import (counted, demo_lines, description, example_cp, read_file, refusal_sentence,
-                      shown)
+from describe import (counted, demo_lines, description, example_cp, rate_line, read_file,
+                      refusal_sentence, shown)
 from dil import TABLE_5, length as dil_length, send_dil
+from flip import changed_places
 from frames import (COLD, FRESH, MOST_DOUBTFUL, MOST_FRAMES, add_bits, control_frames, data_bits,
                     data_bytes, ends_sequence, get_bits, receive_frame, send_frame, width_of)
 from linear import linear
 from picture import LAW_NAMES, Picture, found_line, svg_lines, text_lines
 from plan import MOST_CEILING, RATES, SPACINGS, largest_spacing, plan, points_wanted
-from record import make
+from record import k_of, make
 from start import E_S, FOUND_FROM, UCODE, find_state, from_zero, octet_count
 from table1 import A, MU, ucode_of
 
@@ -500,6 +501,31 @@ def write_plan(call, k_word, law_name, spacing_word, ceiling, *words):
     call.say(found_line(picture))
 
 
+# One flipped sign
+
+def interval_line(interval, places):
+    """The line of what one sign of an interval changes."""
+    bits = counted(len(places), "bit")
+    return f"interval {interval}: {bits}: {' '.join(map(str, places))}"
+
+
+def flip_lines(record):
+    """What one flipped sign changes under a record."""
+    return [rate_line(record),
+            "one octet comes with the other sign; its frame and the two after it are good, and the "
+            "control channel is off",
+            "no mark changes; of the data bits, counted from the first of that frame, these do",
+            *(interval_line(i, changed_places(k_of(record), i)) for i in range(6))]
+
+
+def tell_flip(call, cp_name):
+    """`flip CPFILE`."""
+    record = cp_in(call.files, cp_name)
+    if record.drn == 0:
+        raise Failed(CLEARDOWN)
+    call.write_lines(flip_lines(record))
+
+
 # The other commands
 
 def tell_cp(call, name):
@@ -540,7 +566,8 @@ def tell_version(call):
 # Each command with the least and the most words after it.
 COMMANDS = {"cp": (tell_cp, 1, 1), "send": (send, 2, 9), "receive": (receive, 2, 7),
             "start": (send_start, 2, 2), "linear": (tell_linear, 1, 2), "dil": (write_dil, 1, 1),
-            "plan": (write_plan, 4, 5), "demo": (demo, 0, 1), "--version": (tell_version, 0, 0)}
+            "plan": (write_plan, 4, 5), "flip": (tell_flip, 1, 1), "demo": (demo, 0, 1),
+            "--version": (tell_version, 0, 0)}
 
 
 # The script

@@ -1,8 +1,8 @@
 """Tests of the model: `python3 reference/test.py` prints a line for each group, then 'ok'.
 
 With -v it also says how many stored cases, rows of Table 1 and lines of the DIL each wrong codec
-fails, how many stored lines of plans each wrong planner, and at which line of the stored run each
-wrong program first differs.
+fails, how many stored lines of plans each wrong planner, how many stored cases each wrong cost of a
+flipped sign, and at which line of the stored run each wrong program first differs.
 """
 
 import re
@@ -16,12 +16,14 @@ from unittest.mock import patch
 from xml.etree import ElementTree
 
 import cases_cp
+import cases_flip
 import cases_frames
 import cases_start
 import control
 import cp
 import describe
 import dil
+import flip
 import forms
 import frames
 import picture
@@ -522,14 +524,17 @@ def stored_lines(name):
     return [bytes.fromhex(line) for line in stored_text(name).splitlines()]
 
 
+def stored_pairs(name):
+    """(Case, answer) for the stored cases of a program."""
+    cases, answers = stored_lines(f"{name}/stdin"), stored_lines(f"{name}/stdout")
+    same(len(cases), len(answers), f"lines of {name}")
+    return list(zip(cases, answers))
+
+
 def stored_cases():
-    """(Case, answer) for all stored cases."""
-    both = []
-    for name in ("vectors_cp", "vectors_frames", "vectors_start"):
-        cases, answers = stored_lines(f"{name}/stdin"), stored_lines(f"{name}/stdout")
-        same(len(cases), len(answers), f"lines of {name}")
-        both += zip(cases, answers)
-    return both
+    """(Case, answer) for all stored cases but those of one flipped sign."""
+    return [pair for name in ("vectors_cp", "vectors_frames", "vectors_start")
+            for pair in stored_pairs(name)]
 
 
 def stored_answers():
@@ -1473,6 +1478,196 @@ def stored_plans():
     wanted[42, "mu"] = {26, 27}
     same(found, wanted, "refusals of each K and law")
     return f"{len(found)} of K and law"
+
+
+# One flipped sign (A.13)
+
+TAPS = (0, 18, 23)
+
+
+def sign_bits_of(k, interval):
+    """The places of the bits that a sign is in: its own, and that of the sign after it.
+
+    After interval 5 that is the first bit of the next frame.
+    """
+    return interval, interval + 1 if interval < 5 else k + 6
+
+
+def places_named(bits, taps=TAPS):
+    """The data bits in which scrambled bits are: 0, 18 and 23 places after each of them."""
+    return [bit + tap for bit in bits for tap in taps]
+
+
+def without_twins(places):
+    """The places, in order, but for those that are named twice: they do not change."""
+    return sorted(place for place in places if places.count(place) == 1)
+
+
+def frames_after(k, interval):
+    """How many frames after the one that is hit have a changed place, by hand."""
+    return max(places_named(sign_bits_of(k, interval))) // (k + 6)
+
+
+def flip_costs():
+    """At each K and interval the places by hand, as many as A.13 says; the Ucode is not flipped."""
+    for k, interval in product(plan.RATES, range(6)):
+        places = flip.changed_places(k, interval)
+        same(places, without_twins(places_named(sign_bits_of(k, interval))),
+             f"K = {k}, interval {interval}")
+        same(len(places), 4 if interval == 5 and k in (17, 22) else 6, "their number")
+    wanted = {(15, 0): [0, 1, 18, 19, 23, 24], (42, 4): [4, 5, 22, 23, 27, 28],
+              (15, 5): [5, 21, 23, 28, 39, 44], (17, 5): [5, 28, 41, 46],
+              (22, 5): [5, 23, 46, 51], (42, 5): [5, 23, 28, 48, 66, 71]}
+    same({pair: flip.changed_places(*pair) for pair in wanted}, wanted, "examples")
+    same(flip.flipped(bytes(range(12)), 1, 2), bytes((0, 1, 2, 3, 4, 5, 6, 7, 0x88, 9, 10, 11)),
+         "an octet flipped")
+    for law, sign, ucode in product((MU, A), (0, 1), range(128)):
+        same(flip.flipped(bytes([octet_of(law, sign, ucode)]), 0, 0),
+             bytes([octet_of(law, 1 - sign, ucode)]), "the other sign")
+    return "28 K, 6 intervals"
+
+
+def changed_between(record, frame, bits, others):
+    """The places at which two lots of data bits differ, counted from the first bit of a frame."""
+    first = frame * frames.frame_bits(record)
+    return [n - first for n, (bit, other) in enumerate(zip(bits, others)) if bit != other]
+
+
+def flip_runs():
+    """From any state, in any calls, whatever damage is before and after: no mark, those places.
+
+    The frames from the one that is hit to the last with a changed place are good, and others of
+    the line are damaged in part. The two receivers have calls of their own.
+    """
+    draw, met = Draw(22), set()
+    for n in range(1680):
+        k, interval = 15 + n % 28, n // 28 % 6
+        record, law, needed = a_record(draw, k - 14), draw.below(2), frames_after(k, interval)
+        frame, state = draw.below(6), a_state(draw)
+        choices = [0] * (frame + needed + 1 + draw.below(4))
+        line = sender_list(draw, record, law, state, choices)[1]
+        line = cases_flip.with_damage(draw, record, law, line, [
+            *range(frame), *range(frame + needed + 1, len(choices))])
+        begin = draw.pick((state, a_state(draw)))
+        bits, marks, counts = receiver_list(draw, record, law, begin, line, choices)
+        others, other_marks, other_counts = receiver_list(
+            draw, record, law, begin, flip.flipped(line, frame, interval), choices)
+        same((len(others), other_marks), (len(bits), marks), "marks")
+        check(all(counts[read] == other_counts.get(read, counts[read]) for read in counts),
+              "counts of doubtful bits")
+        same(changed_between(record, frame, bits, others), flip.changed_places(k, interval),
+             f"K = {k}, interval {interval}")
+        past = [mark > 0 for mark in marks[frame + needed + 1:]]
+        met |= {("before", mark) for mark in marks[:frame][-1:]} | {(needed, *past[:2])}
+    check({("before", mark) for mark in range(8)} <= met, "marks of the frame before")
+    check({(needed, *past) for needed in range(3) for past in ((), (True,), (True, True), (False,),
+                                                               (True, False), (False, True))}
+          <= met, "frames past those needed")
+    return "1680 runs"
+
+
+def changed_with(record, law, state, line, interval):
+    """The places that change where the first frame of a line is hit; no mark does."""
+    marks, bits, _ = received(record, law, state, line)
+    other_marks, others, _ = received(record, law, state, flip.flipped(line, 0, interval))
+    same(other_marks, marks, "marks")
+    return [n for n in range((bits ^ others).bit_length()) if (bits ^ others) >> n & 1]
+
+
+def flip_needs():
+    """Two frames after the one that is hit are enough, and each with a changed place is needed.
+
+    Where one of them is marked or not read, the places before it are all that change. Where the hit
+    frame is marked, those of the next frame's first bit alone change, after interval 5.
+    """
+    draw, most = Draw(23), {}
+    for k, interval in product(plan.RATES, range(6)):
+        record, law, state = a_record(draw, k - 14), draw.below(2), a_state(draw)
+        places, needed = flip.changed_places(k, interval), frames_after(k, interval)
+        same(cases_flip.frames_needed(k, interval), needed, "frames needed")
+        most.setdefault(needed, set()).add((k, interval))
+        line = cases_flip.good_frames(draw, record, law, a_state(draw), 5)
+        same(changed_with(record, law, state, line, interval), places, "four frames after")
+        for n in range(5):
+            before = [place for place in places if place < n * (k + 6)]
+            same(before == places, n > needed, f"frame {n} not needed")
+            same(changed_with(record, law, state, line[:6 * n], interval) if n else [], before,
+                 f"frame {n} not read")
+            if k < 42:
+                frame = altered(draw, record, law, line[6 * n:6 * n + 6])
+                hurt = cases_flip.with_frame(line, n, frame)
+                of_next = places_named([k + 6]) if interval == 5 else []
+                same(changed_with(record, law, state, hurt, interval), before if n else of_next,
+                     f"frame {n} marked")
+    same(sorted(most), [0, 1, 2], "frames needed")
+    same(most[2], {(15, 5), (16, 5), (17, 5)}, "two frames needed")
+    return "marked or not read: each of four frames after"
+
+
+def premises_of(marks, frame, needed):
+    """In what way a line meets the premises: 'good', or what is amiss first."""
+    if marks[frame]:
+        return "hit frame marked"
+    for n in range(1, needed + 1):
+        if frame + n == len(marks):
+            return f"frame {n} after not read"
+        if marks[frame + n]:
+            return f"frame {n} after marked"
+    return "good"
+
+
+def stored_flip(case, answer):
+    """(K, interval, law, premises, frames before it are marked, refusal) of a stored case.
+
+    Its answer is the model's, and keeps its bounds.
+    """
+    record, law, _, frame, interval, octets = forms.arguments(case)[1]
+    k, count = k_of(record), len(octets) // 6
+    check(len(case) <= 1400 and len(octets) == 6 * count, "octets of a case")
+    check(frame < count and interval < 6 and k in plan.RATES, "numbers of a case")
+    same(forms.answer(case).hex(), answer.hex(), f"answer to {case.hex()}")
+    places = flip.changed_places(k, interval)
+    same(answer[46 + 14 * count:], bytes([len(places), *places]), "the end of an answer")
+    (refusal, state, _, bits, marks), other = forms.outcome(case)
+    same([refusal], (forms.held(case) or [None])[:1], "refusal")
+    if refusal:
+        _, _, _, given, _, _, *lent = forms.reading(*forms.arguments(case)[1][:3], octets)
+        same([state, bits, marks], [given, *lent], "what a refusal leaves")
+        same(other, (refusal, state, control.NOTHING, bits, marks), "the second reading")
+        return k, interval, law, "refused", False, refusal.number
+    same((other[0], other[4]), (None, marks), "marks")
+    width = count * frames.frame_bits(record)
+    found = changed_between(record, frame, bits_in(bits, width), bits_in(other[3], width))
+    premises = premises_of(marks, frame, frames_after(k, interval))
+    check((found == places) == (premises == "good"), f"places that change, {premises}")
+    return k, interval, law, premises, any(marks[:frame]), 0
+
+
+def stored_flips():
+    """What the stored cases of one flipped sign must have."""
+    both = stored_pairs("vectors_flip")
+    found = [stored_flip(case, answer) for case, answer in both]
+    check(250 <= len(found) <= 400, "lines of vectors_flip")
+    good = [one for one in found if one[3] == "good"]
+    same({one[:2] for one in good}, set(product(plan.RATES, range(6))), "each K and interval")
+    same({(k, law) for k, _, law, *_ in good}, set(product(plan.RATES, (MU, A))), "each K and law")
+    check(sum(one[4] for one in good) >= 50, "marked frames before")
+    amiss = {(k, interval, premises) for k, interval, _, premises, _, _ in found}
+    check(set(product((15, 16, 17), [5], ("frame 1 after marked", "frame 2 after marked",
+                                          "frame 1 after not read", "frame 2 after not read")))
+          <= amiss, "frames needed at K = 15, 16 and 17")
+    check(set(product(range(6), ("hit frame marked",)))
+          | set(product(range(2, 6), ("frame 1 after marked", "frame 1 after not read")))
+          <= {one[1:] for one in amiss}, "intervals with a premise amiss")
+    same({one[5] for one in found}, {0, 4, 10, 25, 11, 12, 14, 18, 19}, "refusals")
+    states = [forms.arguments(case)[1][2] for case, _ in both]
+    check({FRESH, COLD} <= set(states), "states")
+    check(sum(state.doubtful > 0 for state in states) >= 50, "counts in states")
+    check(sum(any(state[3:]) for state in states) >= 50, "fields of the channel in states")
+    check({max(forms.arguments(case)[1][0].indices) for case, _ in both} >= set(range(6)), "masks")
+    frames_hit = {forms.arguments(case)[1][3] for case, _ in both}
+    check({*range(6), 100, 209} <= frames_hit, "frames that are hit")
+    return f"{len(found)} cases, {len(good)} of them with good frames"
 
 
 # Wrong codecs
@@ -3280,6 +3475,183 @@ def wrong_planners():
     return f"{len(found)} stopped"
 
 
+# Wrong costs of a flipped sign
+
+# The right places, by K and interval.
+PLACES = {pair: flip.changed_places(*pair) for pair in product(plan.RATES, range(6))}
+
+
+def places_of(change):
+    """The changes that make other places of K, interval and the right places."""
+    return {"flip.changed_places": lambda k, interval: change(k, interval, PLACES[k, interval])}
+
+
+def places_from(bits, taps=TAPS):
+    """The changes that find the places from other sign bits, by K and interval, or other taps."""
+    return places_of(lambda k, interval, places: without_twins(
+        places_named(bits(k, interval), taps)))
+
+
+def after_interval_5(bit):
+    """The changes that have the sign bit after interval 5 at another place, made from K."""
+    return places_from(lambda k, interval: (interval, interval + 1 if interval < 5 else bit(k)))
+
+
+def twins_kept_at(rates, made=sorted):
+    """The changes that keep at some K what is named twice, made from all places named."""
+    return places_of(lambda k, interval, places: made(places_named(sign_bits_of(k, interval)))
+                     if k in rates else places)
+
+
+def with_right_places(changes):
+    """The changes, the places being right all the same."""
+    return changes | places_of(lambda k, interval, places: places)
+
+
+def octets_flipped(change):
+    """The changes that flip other bits: of each octet, made from its place and the right place."""
+    return with_right_places({"flip.flipped": lambda octets, frame, interval: bytes(
+        octet ^ change(n, 6 * frame + interval) for n, octet in enumerate(octets))})
+
+
+def sign_made(change):
+    """The changes that make another octet of the one that is hit."""
+    def flipped(octets, frame, interval):
+        place = 6 * frame + interval
+        return octets[:place] + bytes([change(octets[place])]) + octets[place + 1:]
+    return with_right_places({"flip.flipped": flipped})
+
+
+def read_otherwise(change):
+    """The changes that read two lines otherwise, made from record, law, state and the lines."""
+    def receptions(record, law, state, frame, interval, octets):
+        return change(record, law, state, octets, flip.flipped(octets, frame, interval))
+    return {"forms.receptions": receptions}
+
+
+def second_after_first(record, law, state, octets, others):
+    """The second reading goes on from the state that the first left."""
+    first = frames.receive(*forms.reading(record, law, state, octets))
+    return [first, frames.receive(*forms.reading(record, law, first[1], others))]
+
+
+def channel_on(record, law, state, octets, others):
+    """The control channel is on."""
+    calls = [forms.reading(record, law, state, line) for line in (octets, others)]
+    return [frames.receive(*call[:4], 1, *call[5:]) for call in calls]
+
+
+def read_from(**fields):
+    """The changes that read from a state with other fields."""
+    return read_otherwise(lambda record, law, state, *lines: [
+        frames.receive(*forms.reading(record, law, state._replace(**fields), line))
+        for line in lines])
+
+
+def mark_of_flip(record, law, state, octets, others):
+    """The frame that is hit gets a mark."""
+    first, second = (frames.receive(*forms.reading(record, law, state, line))
+                     for line in (octets, others))
+    hit = next(n for n, pair in enumerate(zip(octets, others)) if len(set(pair)) == 2) // 6
+    marks = bytes(hit % 6 + 1 if n == hit else mark for n, mark in enumerate(second[4]))
+    return [first, second if second[0] else (*second[:4], marks)]
+
+
+WRONG_FLIPS = {
+    "the sign bit after it left alone": places_from(lambda k, interval: (interval,)),
+    "its own sign bit left alone": places_from(lambda k, interval: sign_bits_of(k, interval)[1:]),
+    "the sign bit before it in place of its own": places_from(
+        lambda k, interval: (max(interval - 1, 0), sign_bits_of(k, interval)[1])),
+    "sign bits alone": places_from(sign_bits_of, (0,)),
+    "sign bits themselves not counted": places_from(sign_bits_of, (18, 23)),
+    "taps at 17 and 23": places_from(sign_bits_of, (0, 17, 23)),
+    "taps at 18 and 22": places_from(sign_bits_of, (0, 18, 22)),
+    "taps at 5 and 23": places_from(sign_bits_of, (0, 5, 23)),
+    "taps one too far": places_from(sign_bits_of, (0, 19, 24)),
+    "places named twice kept once": twins_kept_at((17, 22), lambda named: sorted(set(named))),
+    "places named twice kept twice": twins_kept_at((17, 22)),
+    "six places at K = 17": twins_kept_at((17,)),
+    "six places at K = 22": twins_kept_at((22,)),
+    "four places in each interval at K = 17": places_of(
+        lambda k, interval, places: places[:4] if k == 17 else places),
+    "four places at K = 16 and 21": after_interval_5(lambda k: k + 7),
+    "four places at K = 18 and 23": after_interval_5(lambda k: k + 5),
+    "next sign of interval 5 in the same frame": after_interval_5(lambda k: 6),
+    "next sign of interval 5 at place K": after_interval_5(lambda k: k),
+    "next sign of interval 5 a frame late": after_interval_5(lambda k: 2 * (k + 6)),
+    "next sign of interval 5 left alone": places_from(
+        lambda k, interval: sign_bits_of(k, interval)[:1 if interval == 5 else 2]),
+    "interval counted from 1": places_of(
+        lambda k, interval, places: PLACES[k, max(interval - 1, 0)]),
+    "places counted from 1": places_of(lambda k, interval, places: [n + 1 for n in places]),
+    "places counted from the next frame": places_of(
+        lambda k, interval, places: [n - k - 6 for n in places if n >= k + 6]),
+    "places counted from the bits of R": places_of(
+        lambda k, interval, places: [n - 6 for n in places if n >= 6]),
+    "places counted from the sign that is hit": places_of(
+        lambda k, interval, places: [n - interval for n in places]),
+    "places in that frame alone": places_of(
+        lambda k, interval, places: [n for n in places if n < k + 6]),
+    "places in that frame and the next alone": places_of(
+        lambda k, interval, places: [n for n in places if n < 2 * (k + 6)]),
+    "places falling": places_of(lambda k, interval, places: places[::-1]),
+    "places of one sign bit after the other": places_of(
+        lambda k, interval, places: sorted(places, key=places_named(
+            sign_bits_of(k, interval)).index)),
+    "places of K = 15 always": places_of(
+        lambda k, interval, places: PLACES[15, interval]),
+    "places of one K more": places_of(
+        lambda k, interval, places: PLACES[min(k + 1, 42), interval]),
+    "six told always": {"forms.places_form": lambda places: bytes([6, *places])},
+    "number of places not told": {"forms.places_form": bytes},
+    "nothing flipped": octets_flipped(lambda n, place: 0),
+    "the octet before flipped": octets_flipped(lambda n, place: 0x80 * (n == max(place - 1, 0))),
+    "the octet after flipped": octets_flipped(lambda n, place: 0x80 * (n == place + 1)),
+    "the frame before flipped": octets_flipped(lambda n, place: 0x80 * (n == place - 6)),
+    "all signs of the frame flipped": octets_flipped(
+        lambda n, place: 0x80 * (n // 6 == place // 6)),
+    "all signs from it on flipped": octets_flipped(lambda n, place: 0x80 * (n >= place)),
+    "weight 64 flipped": octets_flipped(lambda n, place: 0x40 * (n == place)),
+    "weight 1 flipped": octets_flipped(lambda n, place: n == place),
+    "all bits flipped": octets_flipped(lambda n, place: 0xFF * (n == place)),
+    "sign set": sign_made(lambda octet: octet | 0x80),
+    "sign cleared": sign_made(lambda octet: octet & 0x7F),
+    "second reading after the first": read_otherwise(second_after_first),
+    "readings exchanged": read_otherwise(
+        lambda record, law, state, octets, others: [
+            frames.receive(*forms.reading(record, law, state, line)) for line in (others, octets)]),
+    "read with the channel on": read_otherwise(channel_on),
+    "read from the zero state": read_from(history=0, sign=0),
+    "read from the sign 0": read_from(sign=0),
+    "read with no bit doubtful": read_from(doubtful=0),
+    "the hit frame marked": read_otherwise(mark_of_flip),
+    "a flip that never dies out": with_right_places({"frames.descramble": own_output}),
+    "last sign kept where a frame is marked": {"frames.after_mark": sign_kept},
+}
+
+
+def failing_flips(both):
+    """Whether each stored case of one flipped sign has another answer."""
+    return (forms.answer(case) != answer for case, answer in both)
+
+
+def wrong_flips():
+    """Every wrong cost of a flipped sign fails at a stored case.
+
+    Without -v no more than the first is looked for.
+    """
+    both, found = stored_pairs("vectors_flip"), {}
+    for name, changes in WRONG_FLIPS.items():
+        with changed(changes):
+            found[name] = (sum if "-v" in sys.argv else any)(failing_flips(both))
+    if "-v" in sys.argv:
+        for name, count in found.items():
+            print(f"    {name}: fails {count} of {len(both)}")
+    check(all(found.values()), f"not stopped: {[name for name in found if not found[name]]}")
+    check(not any(failing_flips(both)), "the model itself")
+    return f"{len(found)} stopped"
+
+
 # The program
 
 def verdicts(script, lines):
@@ -3668,6 +4040,37 @@ def plan_sentences():
     return f"{len(last)} sentences, CPs of each K"
 
 
+def flip_sentences():
+    """What is said of one flipped sign, by examples, and its lines at each K."""
+    files = {"example.cp": cases_cp.plain(EXAMPLE), "none.cp": cases_cp.plain(EMPTY)}
+    two_after = ("one octet comes with the other sign; its frame and the two after it are good, "
+                 "and the control channel is off")
+    these = "no mark changes; of the data bits, counted from the first of that frame, these do"
+    same(said(files, "Flip example.cp"),
+         ["rate 28 kbit/s, drn 1: a frame has 21 data bits (D), 15 of them in R (K)", two_after,
+          these, "interval 0: 6 bits: 0 1 18 19 23 24", "interval 1: 6 bits: 1 2 19 20 24 25",
+          "interval 2: 6 bits: 2 3 20 21 25 26", "interval 3: 6 bits: 3 4 21 22 26 27",
+          "interval 4: 6 bits: 4 5 22 23 27 28", "interval 5: 6 bits: 5 21 23 28 39 44", "v91: ok"],
+         "the example")
+    told = {"flip none.cp": program.CLEARDOWN,
+            "flip": "wrong number of words; v91 help says what each command takes",
+            "flip example.cp mu": "wrong number of words; v91 help says what each command takes"}
+    for command, sentence in told.items():
+        same(said(files, command), [f"v91: {sentence}", "v91: failed"], command)
+    draw = Draw(24)
+    for k in plan.RATES:
+        record = a_record(draw, k - 14)
+        lines = said({"r.cp": cases_cp.plain(record)}, "flip r.cp")
+        same((lines[0], lines[1:3], len(lines)),
+             (describe.description(record)[1], [two_after, these], 10), f"K = {k}")
+        for interval, line in enumerate(lines[3:9]):
+            places = without_twins(places_named(sign_bits_of(k, interval)))
+            count = "4" if interval == 5 and k in (17, 22) else "6"
+            same(line.split(" "), ["interval", f"{interval}:", count, "bits:", *map(str, places)],
+                 f"K = {k}, interval {interval}")
+    return f"{len(told)} sentences, 28 K"
+
+
 def stored_data():
     """The stored data files of v91: {name: bytes}."""
     return {name: vectors.stored(f"{vectors.DATA}/{name}")
@@ -3678,7 +4081,7 @@ def stored_run():
     """The stored run is text within bounds and has each refusal, command and kind of sentence."""
     data, lines = stored_data(), stored_text("v91/stdout").splitlines()
     script = data[trial.NAME].decode("ascii")
-    check(len(script) <= 16_000, "length of the script")
+    check(len(script) <= 32_000, "length of the script")
     check(sum(map(len, data.values())) < 60_000, "data files")
     check(stored_text("v91/stdout").replace("\t", "").replace("\n", "").replace("\x7f", "")
           .isprintable(), "the transcript is no text")
@@ -3686,7 +4089,7 @@ def stored_run():
     told = {int(number) for number in re.findall(r"\(refusal (\d+)\)", "\n".join(lines))}
     same(told, {*range(2, 12), 13, 25, 26, 27, 28}, "refusals told")
     outcomes = {(program.words_of(command)[0].lower(), good) for command, good in found}
-    for command in ("cp", "send", "receive", "start", "linear", "dil", "plan", "demo"):
+    for command in ("cp", "send", "receive", "start", "linear", "dil", "plan", "flip", "demo"):
         check({(command, True), (command, False)} <= outcomes, f"{command} good and failing")
     check({("--version", True), ("run", False), ("nonsense", False)} <= outcomes, "other words")
     same(set(map(len, trial.good_cps().values())), set(describe.CP_LENGTHS), "lengths of CPs read")
@@ -3698,14 +4101,15 @@ def stored_run():
 
 CALL = frames.MOST_FRAMES
 RIGHT_PROGRAM = {name: getattr(program, name)
-                 for name in ("COMMANDS", "are_of_start", "begun", "bytes_wanted", "check_ceiling",
-                              "check_send_words", "cp_in", "data_told", "demo_lines",
-                              "found_sentence", "frame_count", "frame_sentences", "has_word",
-                              "number_for", "number_told", "octets_for", "octets_read",
-                              "part_sentences", "plan_sentence", "receive", "reception",
-                              "run_sentence", "runs_of", "send", "send_start", "sent_sentence",
-                              "sent_sentences", "sequence_sentence", "state_for_sending",
-                              "state_found", "state_told", "summary", "write_dil", "write_plan")}
+                 for name in ("COMMANDS", "are_of_start", "begun", "bytes_wanted", "carry_out",
+                              "check_ceiling", "check_send_words", "cp_in", "data_told",
+                              "demo_lines", "flip_lines", "found_sentence", "frame_count",
+                              "frame_sentences", "has_word", "interval_line", "number_for",
+                              "number_told", "octets_for", "octets_read", "part_sentences",
+                              "plan_sentence", "receive", "reception", "run_sentence", "runs_of",
+                              "send", "send_start", "sent_sentence", "sent_sentences",
+                              "sequence_sentence", "state_for_sending", "state_found",
+                              "state_told", "summary", "tell_flip", "write_dil", "write_plan")}
 RIGHT_RUNS = describe.ucode_runs
 RIGHT_PICTURE = {name: getattr(picture, name)
                  for name in ("Picture", "bar", "drawn_at", "drawing", "gaps_of", "grid_lines",
@@ -4781,6 +5185,171 @@ WRONG_START_PROGRAMS = {
 }
 
 
+# Wrong programs of one flipped sign
+
+def flip_places(change):
+    """The changes that let flip tell other places, made from K, interval and the right ones."""
+    return {"program.changed_places": lambda k, interval: change(k, interval, PLACES[k, interval])}
+
+
+def flip_line(change):
+    """The changes that write the line of an interval otherwise."""
+    return {"program.interval_line": change}
+
+
+def flip_text(change):
+    """The changes that make other lines of flip from the right ones."""
+    return {"program.flip_lines": lambda record: change(RIGHT_PROGRAM["flip_lines"](record))}
+
+
+def flip_words(before, after):
+    """The changes that have other words in the lines of flip."""
+    return flip_text(lambda lines: [line.replace(before, after) for line in lines])
+
+
+def flip_by(command):
+    """The changes that let flip do something else."""
+    return {"program.COMMANDS": commands_with(flip=command)}
+
+
+def flip_taking(least, most):
+    """The changes that let flip take so many words; CPFILE not given is the example."""
+    def command(call, cp_name="example.cp", *rest):
+        RIGHT_PROGRAM["tell_flip"](call, cp_name)
+    return {"program.COMMANDS": program.COMMANDS | {"flip": (command, least, most)}}
+
+
+def flip_at_cleardown(call, cp_name):
+    """Cleardown is let through, as K = 14."""
+    record = program.cp_in(call.files, cp_name)
+    if record.drn:
+        RIGHT_PROGRAM["tell_flip"](call, cp_name)
+        return
+    places = [without_twins(places_named(sign_bits_of(14, i))) for i in range(6)]
+    call.write_lines(map(program.interval_line, range(6), places))
+
+
+def flip_of_no_rate(call, cp_name):
+    """Cleardown is told as cp does."""
+    record = program.cp_in(call.files, cp_name)
+    if record.drn:
+        RIGHT_PROGRAM["tell_flip"](call, cp_name)
+    else:
+        call.write_lines([describe.rate_line(record)])
+
+
+def flip_after_rate(call, cp_name):
+    """The rate is written before cleardown is told."""
+    record = program.cp_in(call.files, cp_name)
+    if record.drn == 0:
+        call.write_lines([describe.rate_line(record)])
+    RIGHT_PROGRAM["tell_flip"](call, cp_name)
+
+
+def flip_letting(number):
+    """The changes that let flip pass over a refusal of its CP."""
+    def command(call, cp_name):
+        octets = call.files.get(cp_name, b"")
+        refusal, _ = program.read_file(octets)
+        if not refusal or refusal.number != number:
+            RIGHT_PROGRAM["tell_flip"](call, cp_name)
+            return
+        call.write_lines(program.flip_lines(cp.record_in(int.from_bytes(octets, "little"))))
+    return flip_by(command)
+
+
+def flip_said(call, cp_name):
+    """The lines are said and not written."""
+    held = bytearray()
+    RIGHT_PROGRAM["tell_flip"](program.Call(call.files, call.input, held, held), cp_name)
+    for line in held.decode().splitlines():
+        call.say(line)
+
+
+def flip_named(call, cp_name):
+    """A missing file is told without what is wanted."""
+    try:
+        RIGHT_PROGRAM["tell_flip"](call, cp_name)
+    except program.Failed as failure:
+        raise program.Failed(failure.args[0]) from None
+
+
+def flip_typed(call, name, *words):
+    """The command flip in small letters alone."""
+    if name.lower() == "flip" != name:
+        raise program.Failed(f"there is no command {name}; v91 help says what there are")
+    RIGHT_PROGRAM["carry_out"](call, name, *words)
+
+
+WRONG_FLIP_PROGRAMS = {
+    "flip: intervals from 1": flip_line(lambda interval, places: RIGHT_PROGRAM["interval_line"](
+        interval + 1, places)),
+    "flip: places from 1": flip_places(lambda k, interval, places: [n + 1 for n in places]),
+    "flip: places from the next frame": flip_places(
+        lambda k, interval, places: [n - k - 6 for n in places if n >= k + 6]),
+    "flip: K for D": flip_places(lambda k, interval, places: without_twins(
+        places_named((interval, interval + 1 if interval < 5 else k)))),
+    "flip: D for K": flip_places(lambda k, interval, places: without_twins(
+        places_named(sign_bits_of(k + 6, interval)))),
+    "flip: places of K = 15 always": flip_places(lambda k, interval, places: PLACES[15, interval]),
+    "flip: next sign of interval 5 in the same frame": flip_places(
+        lambda k, interval, places: without_twins(places_named((interval, interval + 1)))),
+    "flip: the sign bit after it left alone": flip_places(
+        lambda k, interval, places: places_named([interval])),
+    "flip: taps at 17 and 23": flip_places(lambda k, interval, places: without_twins(
+        places_named(sign_bits_of(k, interval), (0, 17, 23)))),
+    "flip: places named twice kept": flip_places(
+        lambda k, interval, places: sorted(places_named(sign_bits_of(k, interval)))),
+    "flip: places named twice kept once": flip_places(
+        lambda k, interval, places: sorted(set(places_named(sign_bits_of(k, interval))))),
+    "flip: six places at K = 17": flip_places(lambda k, interval, places: sorted(
+        places_named(sign_bits_of(k, interval))) if k == 17 else places),
+    "flip: six places at K = 22": flip_places(lambda k, interval, places: sorted(
+        places_named(sign_bits_of(k, interval))) if k == 22 else places),
+    "flip: places in that frame alone": flip_places(
+        lambda k, interval, places: [n for n in places if n < k + 6]),
+    "flip: places in that frame and the next alone": flip_places(
+        lambda k, interval, places: [n for n in places if n < 2 * (k + 6)]),
+    "flip: places falling": flip_places(lambda k, interval, places: places[::-1]),
+    "flip: places of one sign bit after the other": flip_places(
+        lambda k, interval, places: sorted(places, key=places_named(
+            sign_bits_of(k, interval)).index)),
+    "flip: six told always": flip_line(lambda interval, places: RIGHT_PROGRAM["interval_line"](
+        interval, places).replace("4 bits", "6 bits")),
+    "flip: number of places not told": flip_line(
+        lambda interval, places: f"interval {interval}: {' '.join(map(str, places))}"),
+    "flip: places with commas": flip_line(lambda interval, places: (
+        f"interval {interval}: {len(places)} bits: {', '.join(map(str, places))}")),
+    "flip: a space after the places": flip_line(
+        lambda interval, places: RIGHT_PROGRAM["interval_line"](interval, places) + " "),
+    "flip: five intervals": flip_text(lambda lines: lines[:-1]),
+    "flip: intervals falling": flip_text(lambda lines: lines[:3] + lines[:2:-1]),
+    "flip: the rate not told": flip_text(lambda lines: lines[1:]),
+    "flip: the rate in whole kbit/s": flip_words(" 1/3 kbit/s", " kbit/s"),
+    "flip: the two sentences exchanged": flip_text(
+        lambda lines: [lines[0], lines[2], lines[1], *lines[3:]]),
+    "flip: four frames after it told": flip_words("the two after it", "the four after it"),
+    "flip: its frame not told of": flip_words("its frame and the two after it",
+                                              "the two frames after it"),
+    "flip: the channel not told of": flip_words(", and the control channel is off", ""),
+    "flip: marks not told of": flip_words("no mark changes; of", "of"),
+    "flip: a newline more": flip_text(lambda lines: [*lines, ""]),
+    "flip: said and not written": flip_by(flip_said),
+    "flip: cleardown let through": flip_by(flip_at_cleardown),
+    "flip: cleardown told as cp does": flip_by(flip_of_no_rate),
+    "flip: the rate written at cleardown": flip_by(flip_after_rate),
+    "flip: CRC not looked at": flip_letting(7),
+    "flip: empty intervals let through": flip_letting(25),
+    "flip: drn above 28 let through": flip_letting(9),
+    "flip: a file that is not there told alone": flip_by(flip_named),
+    "flip: no word": flip_taking(0, 1),
+    "flip: two words": flip_taking(1, 2),
+    "flip: in small letters alone": {"program.carry_out": flip_typed},
+    "flip: not there": {"program.COMMANDS": {
+        name: command for name, command in program.COMMANDS.items() if name != "flip"}},
+}
+
+
 def first_differing(changes, wanted):
     """The line, from 1, at which a wrong program's run first differs; 0 where it does not.
 
@@ -4800,7 +5369,8 @@ def first_differing(changes, wanted):
 def wrong_programs():
     """Every wrong program differs from the stored run. A frame that is made again is remembered."""
     wanted = vectors.stored("v91/stdout").splitlines()
-    wrong = WRONG_PROGRAMS | WRONG_CHANNEL_PROGRAMS | WRONG_START_PROGRAMS
+    lists = (WRONG_PROGRAMS, WRONG_CHANNEL_PROGRAMS, WRONG_START_PROGRAMS, WRONG_FLIP_PROGRAMS)
+    wrong = {name: changes for some in lists for name, changes in some.items()}
     remembered = {f"program.{name}": lru_cache(maxsize=None)(getattr(frames, name))
                   for name in ("send_frame", "receive_frame")}
     with changed(remembered):
@@ -4810,7 +5380,6 @@ def wrong_programs():
             print(f"    {name}: differs from line {line} of {len(wanted)} on")
     check(all(found.values()), f"not stopped: {[name for name in found if not found[name]]}")
     same(first_differing({}, wanted), 0, "the model itself")
-    lists = (WRONG_PROGRAMS, WRONG_CHANNEL_PROGRAMS, WRONG_START_PROGRAMS)
     same(len(found), sum(map(len, lists)), "names")
     return f"{len(found)} stopped"
 
@@ -4821,8 +5390,9 @@ GROUPS = (table_1, examples, values, steps, cp_round_trips, demand_3, distrust, 
           stored_channel, start_values, start_undone, start_found, start_to_data, start_refusals,
           stored_starts,
           other_dils, default_dil, wrong_codecs, plan_sizes, plan_least, plan_answers, plan_ranges,
-          plan_largest, stored_plans, wrong_planners, program_round_trips, program_doubts,
-          program_sequences, program_starts, program_sentences, start_sentences, plan_sentences,
+          plan_largest, stored_plans, wrong_planners, flip_costs, flip_runs, flip_needs,
+          stored_flips, wrong_flips, program_round_trips, program_doubts, program_sequences,
+          program_starts, program_sentences, start_sentences, plan_sentences, flip_sentences,
           pictures, stored_run, wrong_programs)
 
 

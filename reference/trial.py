@@ -740,4 +740,38 @@ receive example.cp mu start < turned > back
 receive example.cp mu start 20 < first
 receive example.cp mu start < last > back
 linear a < back
+
+# One flipped sign: the smallest K, the largest, and about 17 and 22, where four bits change
+flip example.cp
+flip third.cp
+FLIP upper.cp
+flip eights.cp
+flip full.cp
+Flip gaps.cp > text
+send full.cp mu exact < text > octets
+plan 21 a 1 18446744073709551615 cp > planned.cp
+flip planned.cp
+plan 22 mu 1 18446744073709551615 cp > planned.cp
+flip planned.cp
+plan 23 a 1 18446744073709551615 cp > planned.cp
+flip planned.cp
+plan 24 mu 1 18446744073709551615 cp > planned.cp
+  flip   planned.cp
+flip noisy.cp < hello
+
+# One flipped sign: cleardown, CP files that are refused or not there, and wrong words
+flip cleardown.cp
+flip crc.cp
+flip hollow.cp
+flip rate.cp
+flip hello
+flip missing.cp
+flip bad\tname.cp
+flip .
+flip
+flip example.cp third.cp
+flip example.cp mu
+flip mu
+flip nowhere.cp < nowhere
+flips example.cp
 """

@@ -8,6 +8,7 @@ import sys
 from pathlib import Path
 
 import cases_cp
+import cases_flip
 import cases_frames
 import cases_start
 import dil
@@ -103,7 +104,8 @@ def texts():
     made = {"vectors_pcm/stdout": pcm_lines(), "vectors_dil/stdout": dil_lines(),
             "vectors_plan/stdout": plan_lines()}
     for name, cases in (("vectors_cp", cases_cp.cases()), ("vectors_frames", cases_frames.cases()),
-                        ("vectors_start", cases_start.cases())):
+                        ("vectors_start", cases_start.cases()),
+                        ("vectors_flip", cases_flip.cases())):
         made[f"{name}/stdin"] = hex_lines(cases)
         made[f"{name}/stdout"] = hex_lines(map(answer, cases))
     return made

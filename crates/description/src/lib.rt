@@ -1,12 +1,14 @@
-// A CP sequence in plain words, and the program's example. A text is added to from a place within it, and the place after what was added is
+// A CP sequence and the cost of a flipped sign in plain words, and the program's example. A text is added to from a place within it, and the place after what was added is
 // within it too.
 mod example;
+mod flipped;
 
 use constellation::Mask;
 use constellation::d_of;
 use constellation::k_of;
 pub use example::add_example;
 pub use example::example_record;
+pub use flipped::add_flip;
 use standard::Record;
 use words::add_choice;
 use words::add_numbers;
@@ -14,7 +16,7 @@ ghost use Prim.Native.Nat.{_<_, _≤_};
 ghost use lib.ListN.{length};
 
 // Adds the rate as V.91 Table 2 prints it, drn, K and D, or that this is a cleardown.
-fn add_rate(text: &mut [u8], at: usize, r: Record) -> usize
+pub(crate) fn add_rate(text: &mut [u8], at: usize, r: Record) -> usize
     requires { ⌜ at ≤ length (now text) ⌝ }
     ensures { λ end. ⌜ end ≤ length (now (text .entry)) ⌝ }
 {

@@ -18,7 +18,7 @@ use Rattle.standard.specs.declared.Record.{Record}
 use Rattle.standard.specs.declared.Said.the-variants.{Nothing}
 use Rattle.standard.proofs.Bits.{length-bitsIn, bits-written}
 use Rattle.standard.proofs.Frame.{Holds, length-sendFrames, length-receiveFrames, length-receiveMarks}
-use Rattle.standard.proofs.Refusals.{passed, few-passed, holds-passed}
+use Rattle.standard.proofs.Refusals.{passed, few-passed, rated-passed, holds-passed}
 
 pub record Sends (r : Record) (l : Law) (st : LineState) (c : SendCall) : Type 0 where
   pub many : length (sendBits st c) ≡ callBits r (c .control) (st .place) (c .frames)
@@ -54,6 +54,7 @@ pub record Receives (r : Record) (l : Law) (st : LineState) (c : ReceiveCall) : 
   pub says : receiveSays st c ≡ lastOr Nothing (receiveSaid r l (c .control) (c .frames) st (receiveOctets c))
   pub few : c .frames ≤ 1024
   pub places : placeTooLarge st ≡ false
+  pub rated : 0 < c .frames → (0 < r .drn) × (r .drn ≤ 28)
 
 pub receives-own : (st : LineState) (c : ReceiveCall) → accepted (receiveRefusal st c) ≡ true → Receives (c .cp) (c .law) st c
 unfolding receiveRefusal receiveOctets receiveLeft receiveBytes receiveMarked receiveSays
@@ -72,4 +73,5 @@ receives-own st c e =
       says = rw e;
       few = few-passed (c .cp) st n _ _ p;
       places = p .places;
+      rated = rated-passed (c .cp) st n _ _ p;
     }

@@ -201,16 +201,22 @@ pub few-passed : (r : Record) (st : LineState) (n : ℕ) (readShort writeShort :
 unfolding tooManyFrames
 few-passed r st n readShort writeShort p = ltb-false 1024 n (p .few)
 
--- a frame is sent or received only where the record can carry its K bits
+-- a frame is sent or received only at a rate
+pub rated-passed : (r : Record) (st : LineState) (n : ℕ) (readShort writeShort : Bool) → Passed r st n readShort writeShort → 0 < n
+    → (0 < r .drn) × (r .drn ≤ 28)
+unfolding drnTooLarge framesAtCleardown
+rated-passed r st n readShort writeShort p h = (go (eq-zero-or-pos (r .drn)), ltb-false 28 (r .drn) (p .rate))
+  where
+    go : (r .drn ≡ 0) ⊎ (0 < r .drn) → 0 < r .drn
+    go (inl e) = absurd (eqb-false (r .drn) 0 (and-false-right (leb 1 n) (eqb (r .drn) 0) (le-leb 1 n h) (p .rated)) e)
+    go (inr k) = k
+
+-- and where the record can carry its K bits
 pub holds-passed : (r : Record) (st : LineState) (n : ℕ) (readShort writeShort : Bool) → Passed r st n readShort writeShort → 0 < n
     → Holds r
-unfolding drnTooLarge productTooSmall framesAtCleardown
-holds-passed r st n readShort writeShort p h = go (eq-zero-or-pos (r .drn))
-  where
-    go : (r .drn ≡ 0) ⊎ (0 < r .drn) → Holds r
-    go (inl e) = absurd (eqb-false (r .drn) 0 (and-false-right (leb 1 n) (eqb (r .drn) 0) (le-leb 1 n h) (p .rated)) e)
-    go (inr k) =
-        let rate : r .drn ≤ 28 = ltb-false 28 (r .drn) (p .rate) in
-        ltb-false (product (sizes r)) (2 ^ K r)
-        (and-false-right (within 1 28 (r .drn)) (ltb (product (sizes r)) (2 ^ K r))
-        (ap₂ _&&_ (le-leb 1 (r .drn) k) (le-leb (r .drn) 28 rate)) (p .carries))
+unfolding productTooSmall
+holds-passed r st n readShort writeShort p h =
+    let k = rated-passed r st n readShort writeShort p h in
+    ltb-false (product (sizes r)) (2 ^ K r)
+    (and-false-right (within 1 28 (r .drn)) (ltb (product (sizes r)) (2 ^ K r))
+    (ap₂ _&&_ (le-leb 1 (r .drn) (k .0)) (le-leb (r .drn) 28 (k .1))) (p .carries))

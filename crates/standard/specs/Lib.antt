@@ -14,5 +14,6 @@ pub mod Plan
 pub mod Control
 pub mod Frame
 pub mod Start
+pub mod Flip
 pub mod Refusals
 pub mod Calls

@@ -116,7 +116,7 @@ left-alone xs ys line a b le e i h u =
 abbrev pub nothing : Incoming
 nothing = sixIn false []
 
-getD-map : {X Y : Type 0} (f : X → Y) (xs : List X) (d : X) (e : Y) (i : ℕ) → i < length xs → getD (map f xs) i e ≡ f (getD xs i d)
+pub getD-map : {X Y : Type 0} (f : X → Y) (xs : List X) (d : X) (e : Y) (i : ℕ) → i < length xs → getD (map f xs) i e ≡ f (getD xs i d)
 getD-map f [] d e i h = absurd (not-suc-le-zero h)
 getD-map f (x ∷ xs) d e zero h = refl
 getD-map f (x ∷ xs) d e (suc i) h = getD-map f xs d e i (omega arith)

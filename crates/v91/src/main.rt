@@ -37,6 +37,7 @@ fn help(e: Ends) -> bool {
   v91 dil LAW > octets                  the default DIL, V.91's learning sequence: 1,500 octets
   v91 plan K LAW SPACING CEILING        the mask for K that keeps SPACING with the least sum of squares, and a picture of it
   v91 plan K LAW SPACING CEILING svg > FILE, or cp > FILE: the picture as a drawing, or the CP with this mask
+  v91 flip CPFILE                       which data bits change where one octet comes with the other sign, for each interval
   v91 demo                              an example: a CP and E_s, 63 bits sent and received, and one octet damaged
   v91 demo cp > FILE                    the CP of the example
   v91 run FILE                          the commands in FILE, one a line, each with its own < FILE and > FILE
@@ -75,7 +76,7 @@ fn unknown(e: Ends, words: &[u8]) -> bool {
 // The number of the command that the first word names, in the order of `run_command`.
 pub(crate) fn command_of(words: &[u8]) -> usize {
     let names =
-        b"cp\nstart\nsend\nreceive\nlinear\ndil\nplan\ndemo\nhelp\n--help\n-h\n--version\nrun\n";
+        b"cp\nstart\nsend\nreceive\nlinear\ndil\nplan\nflip\ndemo\nhelp\n--help\n-h\n--version\nrun\n";
     words::which(names, b'\n', words::nth_part(words, 0, 0))
 }
 
@@ -89,11 +90,12 @@ pub(crate) fn run_command(e: Ends, words: &[u8], command: usize) -> bool {
         5 => has(e, words, 2, 3) && stream::linear(e, words),
         6 => has(e, words, 2, 2) && output::dil(e, words),
         7 => has(e, words, 5, 6) && planner::plan(e, words),
-        8 => has(e, words, 1, 2) && output::demo(e, words),
-        9 => help(e),
+        8 => has(e, words, 2, 2) && output::flip(e, words),
+        9 => has(e, words, 1, 2) && output::demo(e, words),
         10 => help(e),
         11 => help(e),
-        12 => write(e, b"v91 6\n"),
+        12 => help(e),
+        13 => write(e, b"v91 6\n"),
         _ => unknown(e, words),
     }
 }
@@ -104,7 +106,7 @@ fn run_words(e: Ends, words: &[u8]) -> bool {
         return help(e);
     }
     let command = command_of(words);
-    if command == 13 {
+    if command == 14 {
         return has(e, words, 2, 2) && script::run(e, words);
     }
     run_command(e, words, command)

@@ -1,12 +1,15 @@
-// What the commands write: bytes, a CP in plain words, the default DIL, the example.
+// What the commands write: bytes, a CP in plain words, what a flipped sign costs, the default DIL, the example.
 use crate::asked::Named;
 use crate::asked::law_at;
 use crate::cp_file::load_cp;
 use console::Ends;
+use console::Trouble;
+use console::all_well;
 use console::fail_name;
 use console::fail_system;
 use console::tell;
 use description::add_example;
+use description::add_flip;
 use description::add_record;
 use description::example_record;
 use dil::DIL_OCTETS;
@@ -29,6 +32,21 @@ pub(crate) fn cp(e: Ends, words: &[u8]) -> bool {
     }
     let mut text = [0u8; 8192];
     let at = add_record(&mut text, 0, loaded.record, loaded.bit_count);
+    write(e, &text[0..at])
+}
+
+// Says what one flipped sign costs with the CP file that word 1 names.
+pub(crate) fn flip(e: Ends, words: &[u8]) -> bool {
+    let loaded = load_cp(e, words);
+    if !loaded.found {
+        return false;
+    }
+    let record = loaded.record;
+    if record.drn == 0 {
+        return all_well(e, Trouble::Refused(13));
+    }
+    let mut text = [0u8; 2048];
+    let at = add_flip(&mut text, 0, record);
     write(e, &text[0..at])
 }
 

@@ -166,16 +166,16 @@ fn end_line(text: &mut [u8], n: usize) -> usize
 // Runs the commands of the file that word 1 names.
 pub(crate) fn run(e: Ends, words: &[u8]) -> bool {
     let word = words::nth_part(words, 0, 1);
-    let mut text = [0u8; 16384];
+    let mut text = [0u8; 32768];
     let got = console::fill_from(e, word, &mut text);
     if got.error != 0 {
         return false;
     }
     let n = got.count;
-    if 16384 <= n {
+    if 32768 <= n {
         return fail_name(
             e,
-            b"@ is too long; 16,383 bytes of commands can be run",
+            b"@ is too long; 32,767 bytes of commands can be run",
             word,
         );
     }
