@@ -2,3 +2,4 @@ pub mod Runs
 pub mod Counts
 pub mod Channel
 pub mod Start
+pub mod Flip

@@ -121,10 +121,13 @@ module _ {r : Record} {l : Law} {t : LineState} {one other : List ReceiveCall} {
   plain-at j w =
       let k : j < length ys = omega (arith, inside, w .1) in
       let m : mark r l (getD ys j nothing .octets) ≡ 0 =
-      sym (ap (λ (ms : List ℕ). getD ms j 0) (Q .marks) ∙ getD-map (λ y. mark r l (y .octets)) ys nothing 0 j k) ∙ u .good j w in
+      sym (ap (λ (ms : List ℕ). getD ms j 0) (Q .marks) ∙ getD-map (λ y. mark r l (y .octets)) ys nothing 0 j k)
+      ∙ u .good j (omega (arith, w .0), omega (arith, w .1)) in
       record {
         good = ap (λ (x : ℕ). eqb x 0) m;
-        off = sym (ap (λ (bs : List Bool). getD bs j false) (Q .choices) ∙ getD-map chosen ys nothing false j k) ∙ u .off j w;
+        off =
+            sym (ap (λ (bs : List Bool). getD bs j false) (Q .choices) ∙ getD-map chosen ys nothing false j k)
+            ∙ u .off j (omega (arith, w .0), omega (arith, w .1));
       }
 
   plain-y : Plain r l y

@@ -1,0 +1,117 @@
+-- An instance of A.13's premises: five frames, the sign of interval 5 in frame 1 flipped, and the channel on in frame 0; and what comes of
+-- it where the second frame after that is marked. Assumes nothing.
+use mathlib.Core.Path.{_≡_, refl}
+use Prim.Native.Nat.{ℕ, zero, suc, _+_, _<_}
+use mathlib.Core.Bool.{Bool, true, false}
+use mathlib.Core.List.{List, [], _∷_, _++_}
+use native.Mathlib.Omega.{arith}
+use lib.Dec.{lit<}
+use lib.ListN.{getD, take, drop, replicate}
+use Rattle.standard.specs.Lists.{listFrom, any, largest, listWhere, parts, joined, each, after}
+use Rattle.standard.specs.First.{first}
+use Rattle.standard.specs.Bits.{bitAt, bitsIn, field, bytesOf, nth, numberOf, bitsOf}
+use Rattle.standard.specs.Record.{topIndex, inMask}
+use Rattle.standard.specs.Scrambler.{taps, push, pushAll, descramble}
+use Rattle.standard.specs.Constellation.{sizeOf, labelOf, member, sizes}
+use Rattle.standard.specs.Modulus.{product, number}
+use Rattle.standard.specs.Signs.{signBits}
+use Rattle.standard.specs.Octets.{positiveOctet, octet, signOf, ucodeOf}
+use Rattle.standard.specs.Frame.{dataBits, receivedNumber, outsideTest, outsideTests, markTests, mark, heardBits, heardControl, heardData}
+use Rattle.standard.specs.Frame.{receiveFrame, sequenceSoFar, lostSoFar, doubtfulAfter, receiveNext, incomingFrames, receiveFrames}
+use Rattle.standard.specs.Frame.{receiveMarks, receiveAfter}
+use Rattle.standard.specs.Flip.{otherSign, flipAt, changes, changedPlaces, framesAfter}
+use Rattle.standard.specs.Refusals.{indexTooLarge, drnTooLarge, grantedBelowFullRate, intervalEmpty, productTooSmall, maskAboveIndices}
+use Rattle.standard.specs.Refusals.{framesAtCleardown, historyTooLarge, doubtfulTooLarge, placeTooLarge, tooManyFrames, emptyTest}
+use Rattle.standard.specs.Refusals.{emptyTests, rateTests, recordTests, stateTests, lineTests, bufferTests, frameTests}
+use Rattle.standard.specs.Calls.{ReceiveCall, receiveRefusal, receiveOctets, receiveLeft, receiveBytes, receiveMarked}
+use Rattle.standard.specs.declared.LineState.{LineState}
+use Rattle.standard.specs.declared.Law.the-variants.{Mu}
+use Rattle.theorems_cp.specs.Examples.{common, state}
+use Rattle.theorems.specs.Runs.{overCalls, AllCalls, octetsRead, handedOver, marksGiven, receiveChoices, ReceivesWith}
+use Rattle.theorems_flip.specs.Flip.{Within, Hit, differing}
+use Rattle.theorems_flip.proofs.Flip.{flip-costs}
+
+abbrev call : Bool → ℕ → List ℕ → ReceiveCall
+call on n os = record { cp = common; law = Mu; frames = n; control = on; octets = os; bytes = replicate 10 1; marks = replicate 4 9 }
+
+-- five frames, of which the fourth is handed in and the last is marked
+abbrev line : List ℕ → List ℕ
+line six =
+    0xff ∷ 0x7e ∷ 0xfd ∷ 0x7c ∷ 0xfb ∷ 0x7c ∷ 0x7f ∷ 0xfe ∷ 0x7d ∷ 0xfc ∷ 0x7b ∷ 0xfd ∷ 0xfe ∷ 0xfa ∷ 0x7f ∷ 0x7e ∷ 0xff ∷ 0xfc
+    ∷ (six ++ (0x80 ∷ 0x7c ∷ 0x7c ∷ 0xfa ∷ 0xff ∷ 0xfe ∷ []))
+
+-- one frame with the channel on; then, off, a call that is refused for its 2,000 frames, two frames, and two
+abbrev one : List ℕ → List ReceiveCall
+one os = call true 1 (take 6 os) ∷ call false 2000 [] ∷ call false 2 (drop 6 os) ∷ call false 2 (drop 18 os) ∷ []
+
+-- one, three and one
+abbrev other : List ℕ → List ReceiveCall
+other os = call true 1 (take 6 os) ∷ call false 3 (drop 6 os) ∷ call false 1 (drop 24 os) ∷ []
+
+abbrev begun : LineState
+begun = state 77 true
+
+-- a fourth frame that is good
+abbrev clear : List ℕ
+clear = line (0x7e ∷ 0x7e ∷ 0xfd ∷ 0xfd ∷ 0xff ∷ 0x7d ∷ [])
+
+hit : Hit common Mu begun (one clear) (other (flipAt Mu 11 clear)) 1 5
+unfolding listFrom any largest listWhere parts joined each after first bitAt bitsIn field bytesOf nth numberOf bitsOf topIndex inMask taps push
+    pushAll descramble sizeOf labelOf member sizes product number signBits positiveOctet octet signOf ucodeOf dataBits receivedNumber
+    outsideTest outsideTests markTests mark heardBits heardControl heardData receiveFrame sequenceSoFar lostSoFar doubtfulAfter receiveNext
+    incomingFrames receiveFrames receiveMarks receiveAfter otherSign flipAt framesAfter indexTooLarge drnTooLarge grantedBelowFullRate
+    intervalEmpty productTooSmall maskAboveIndices framesAtCleardown historyTooLarge doubtfulTooLarge placeTooLarge tooManyFrames emptyTest
+    emptyTests rateTests recordTests stateTests lineTests bufferTests frameTests receiveRefusal receiveOctets receiveLeft receiveBytes
+    receiveMarked overCalls AllCalls octetsRead handedOver marksGiven receiveChoices ReceivesWith differing
+hit =
+    record {
+      receiver = (λ e. (refl, refl), (λ e. (refl, refl), (λ e. (refl, refl), (λ e. (refl, refl), tt))));
+      receiver′ = (λ e. (refl, refl), (λ e. (refl, refl), (λ e. (refl, refl), tt)));
+      choices = refl;
+      interval = lit< tt;
+      flipped = refl;
+      read = lit< tt;
+      good = marked;
+      off = chosen;
+    }
+  where
+    marked : (j : ℕ) → Within 15 5 1 j → getD (marksGiven begun (one clear)) j 0 ≡ 0
+    marked zero w = absurd (omega (arith, w .0))
+    marked (suc zero) w = refl
+    marked (suc (suc zero)) w = refl
+    marked (suc (suc (suc zero))) w = refl
+    marked (suc (suc (suc (suc j)))) w = absurd (omega (arith, w .1))
+
+    chosen : (j : ℕ) → Within 15 5 1 j → nth (receiveChoices begun (one clear)) j ≡ false
+    chosen zero w = absurd (omega (arith, w .0))
+    chosen (suc zero) w = refl
+    chosen (suc (suc zero)) w = refl
+    chosen (suc (suc (suc zero))) w = refl
+    chosen (suc (suc (suc (suc j)))) w = absurd (omega (arith, w .1))
+
+-- and what it concludes: six bits, of which the first is bit 5 after the 15 of frame 0
+pub instance-flipped : differing (handedOver begun (one clear)) (handedOver begun (other (flipAt Mu 11 clear)))
+    ≡ 20 ∷ 36 ∷ 38 ∷ 43 ∷ 54 ∷ 59 ∷ []
+unfolding listFrom any largest listWhere parts joined each after first bitAt bitsIn field bytesOf nth numberOf bitsOf topIndex inMask taps push
+    pushAll descramble sizeOf labelOf member sizes product number signBits positiveOctet octet signOf ucodeOf dataBits receivedNumber
+    outsideTest outsideTests markTests mark heardBits heardControl heardData receiveFrame sequenceSoFar lostSoFar doubtfulAfter receiveNext
+    incomingFrames receiveFrames receiveMarks receiveAfter otherSign flipAt framesAfter indexTooLarge drnTooLarge grantedBelowFullRate
+    intervalEmpty productTooSmall maskAboveIndices framesAtCleardown historyTooLarge doubtfulTooLarge placeTooLarge tooManyFrames emptyTest
+    emptyTests rateTests recordTests stateTests lineTests bufferTests frameTests receiveRefusal receiveOctets receiveLeft receiveBytes
+    receiveMarked overCalls AllCalls octetsRead marksGiven receiveChoices ReceivesWith changes changedPlaces
+instance-flipped = flip-costs common Mu begun (one clear) (other (flipAt Mu 11 clear)) 1 5 hit .places
+
+-- with its second frame after that marked five bits change: two good frames are needed
+abbrev marred : List ℕ
+marred = line (0x7e ∷ 0x80 ∷ 0xfd ∷ 0xfd ∷ 0xff ∷ 0x7d ∷ [])
+
+pub two-needed : differing (handedOver begun (one marred)) (handedOver begun (other (flipAt Mu 11 marred)))
+    ≡ 20 ∷ 36 ∷ 38 ∷ 43 ∷ 54 ∷ []
+unfolding listFrom any largest listWhere parts joined each after first bitAt bitsIn field bytesOf nth numberOf bitsOf topIndex inMask taps push
+    pushAll descramble sizeOf labelOf member sizes product number signBits positiveOctet octet signOf ucodeOf dataBits receivedNumber
+    outsideTest outsideTests markTests mark heardBits heardControl heardData receiveFrame sequenceSoFar lostSoFar doubtfulAfter receiveNext
+    incomingFrames receiveFrames receiveMarks receiveAfter otherSign flipAt framesAfter indexTooLarge drnTooLarge grantedBelowFullRate
+    intervalEmpty productTooSmall maskAboveIndices framesAtCleardown historyTooLarge doubtfulTooLarge placeTooLarge tooManyFrames emptyTest
+    emptyTests rateTests recordTests stateTests lineTests bufferTests frameTests receiveRefusal receiveOctets receiveLeft receiveBytes
+    receiveMarked overCalls AllCalls octetsRead handedOver marksGiven receiveChoices ReceivesWith differing
+two-needed = refl
