@@ -115,3 +115,12 @@ unfolding listFrom any largest listWhere parts joined each after first bitAt bit
     emptyTests rateTests recordTests stateTests lineTests bufferTests frameTests receiveRefusal receiveOctets receiveLeft receiveBytes
     receiveMarked overCalls AllCalls octetsRead handedOver marksGiven receiveChoices ReceivesWith differing
 two-needed = refl
+
+-- where four bits change: the second sign bit is 18 or 23 places after the first
+pub places-17 : changedPlaces 17 5 ≡ 5 ∷ 28 ∷ 41 ∷ 46 ∷ []
+unfolding listWhere changes changedPlaces
+places-17 = refl
+
+pub places-22 : changedPlaces 22 5 ≡ 5 ∷ 23 ∷ 46 ∷ 51 ∷ []
+unfolding listWhere changes changedPlaces
+places-22 = refl

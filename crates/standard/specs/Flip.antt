@@ -17,15 +17,15 @@ otherSign l o = octet l (not (signOf o)) (ucodeOf l o)
 unfoldable pub flipAt : Law → ℕ → List ℕ → List ℕ
 flipAt l p os = set os p (otherSign l (getD os p 0))
 
--- ---- the data bits that change: frames have k + 6 bits, the sign of interval i of one is flipped, and places are counted from its first bit
+-- ---- the data bits that change, where the sign of interval i of a frame of k + 6 bits is flipped. Places are counted from its first bit
 
 -- 'Each sign is its s bit XOR the sign before it', so a sign is in its own s bit, at place i, and in the one after it: the next interval's,
 -- or after interval 5 the next frame's first
 abbrev pub nextSign : ℕ → ℕ → ℕ
 nextSign k i = cond (eqb i 5) (k + 6) (i + 1)
 
--- 'each scrambled bit is the data bit XOR the scrambled bits 18 and 23 places earlier', so the one at place a is in three data bits: whether
--- p is one of them
+-- 'each scrambled bit is the data bit XOR the scrambled bits 18 and 23 places earlier', so the one at place a is in three data bits: whether p
+-- is one of them
 abbrev pub reaches : ℕ → ℕ → Bool
 reaches a p = eqb p a || (eqb p (a + 18) || eqb p (a + 23))
 

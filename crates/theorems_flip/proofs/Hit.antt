@@ -108,10 +108,10 @@ module _ (r : Record) (l : Law) where
         heard-begins (receiveNext r l s y) ys n (omega arith),
       )
 
+  heard-append : (s : LineState) (A B : List Incoming) → heard s (A ++ B) ≡ heard s A ++ heard (left s A) B
+  heard-append s A B =
+      ap joined (each-append (receiveFrame r l) (receiveNext r l) s A B) ∙ joined-append (each (receiveFrame r l) (receiveNext r l) s A) _
+
   pub heard-parts : (s : LineState) (A M R : List Incoming)
       → heard s (A ++ (M ++ R)) ≡ heard s A ++ (heard (left s A) M ++ heard (left (left s A) M) R)
-  heard-parts s A M R =
-      ap joined (each-append (receiveFrame r l) (receiveNext r l) s A (M ++ R)) ∙ joined-append (each (receiveFrame r l) (receiveNext r l) s A) _
-      ∙ ap (λ (bs : List Bool). heard s A ++ bs)
-      (ap joined (each-append (receiveFrame r l) (receiveNext r l) (left s A) M R)
-      ∙ joined-append (each (receiveFrame r l) (receiveNext r l) (left s A) M) _)
+  heard-parts s A M R = heard-append s A (M ++ R) ∙ ap (λ (bs : List Bool). heard s A ++ bs) (heard-append (left s A) M R)

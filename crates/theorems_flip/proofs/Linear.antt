@@ -55,7 +55,8 @@ mix-append (x ∷ a) b (y ∷ e) f n = ap (λ (r : List Bool). (x ⊕ y) ∷ r) 
 
 -- ---- signs
 
-pub signs-linear : (g e : Bool) (ts us : List Bool) → length ts ≡ length us → signBits (g ⊕ e) (mix ts us) ≡ mix (signBits g ts) (signBits e us)
+pub signs-linear : (g e : Bool) (ts us : List Bool) → length ts ≡ length us
+    → signBits (g ⊕ e) (mix ts us) ≡ mix (signBits g ts) (signBits e us)
 unfolding signBits
 signs-linear g e [] us n = refl
 signs-linear g e (t ∷ ts) [] n = absurd (omega arith)
@@ -97,7 +98,9 @@ mixed-push d h h′ s e m zero l = push-first h′ (s ⊕ e) ∙ sym (ap₂ _⊕
 mixed-push d h h′ s e m (suc j) l =
     let z : suc j ≡ 1 + j = omega arith in
     let k : 21 - j + 1 + (1 + j) ≡ 23 = omega arith in
-    rw z (push-later h′ (s ⊕ e) j (21 - j) k ∙ m j (omega arith) ∙ sym (ap₂ _⊕_ (push-later h s j (21 - j) k) (push-later d e j (21 - j) k)))
+    rw z
+    (push-later h′ (s ⊕ e) j (21 - j) k ∙ m j (omega arith)
+    ∙ sym (ap₂ _⊕_ (push-later h s j (21 - j) k) (push-later d e j (21 - j) k)))
 
 mixed-taps : (d h h′ : ℕ) → Mixed d h h′ → taps h′ ≡ taps h ⊕ taps d
 unfolding taps

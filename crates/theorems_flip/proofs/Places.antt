@@ -36,7 +36,8 @@ module _ (f : ℕ → Bool) where
   where-shift g b i zero h = refl
   where-shift g b i (suc n) h =
       rw (h i (omega arith) (omega arith))
-      (go (g i) (ap (λ (j : ℕ). listWhere f j n) (sym (add-suc b i)) ∙ where-shift g b (suc i) n (λ j a c. h j (omega arith) (omega arith))))
+      (go (g i)
+      (ap (λ (j : ℕ). listWhere f j n) (sym (add-suc b i)) ∙ where-shift g b (suc i) n (λ j a c. h j (omega arith) (omega arith))))
     where
       go : (v : Bool) → listWhere f (suc (b + i)) n ≡ map (λ p. b + p) (listWhere g (suc i) n)
           → cond v ((b + i) ∷ []) [] ++ listWhere f (suc (b + i)) n ≡ map (λ p. b + p) (cond v (i ∷ []) [] ++ listWhere g (suc i) n)

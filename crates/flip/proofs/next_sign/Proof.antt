@@ -1,10 +1,9 @@
 -- Assumes nothing.
-use mathlib.Core.Path.{_≡_, ap, sym, _∙_}
+use mathlib.Core.Path.{_≡_, ap, sym}
 use Prim.Native.Nat.{_+_}
 use mathlib.Core.Bool.{Bool, cond}
 use native.Mathlib.Omega.{arith}
 use borrow.Author.Tests.{eq-eqb, ne-eqb}
-use Rattle.standard.specs.Flip.{nextSign}
 use Rattle.flip.proofs.next_sign.Statement.{statement}
 use Rattle.flip.proofs.next_sign.Tie as tie
 
