@@ -6,10 +6,11 @@ LIBRARY is a shared object with the functions of v91.h under PREFIX, `v91_` or `
 the answer and every byte of every buffer afterwards, with canary bytes before and behind it. In some
 runs of calls the codec's own bytes are held against what the count of doubtful bits promises, in others
 a sequence of the control channel goes through calls of any lengths, in others CP and E_s go before the
-data and the receiver begins in the line state found from them. The test stops at the first difference
+data and the receiver begins in the line state found from them, in others one line is received twice, the
+second time with one sign flipped. The test stops at the first difference
 with a line that shows the call; --show prints every call before it is made. The exit status is 0 if all
-was the same and every refusal, interval, mark, count and place that a state can hand in, and all that
-can be heard, came up, else 1.
+was the same and every refusal, interval, mark, count and place that a state can hand in, all that can be
+heard, and each K and interval with a flipped sign came up, else 1.
 """
 
 import argparse
@@ -30,6 +31,7 @@ import cases_start
 import control
 import cp
 import dil
+import flip
 import forms
 import frames
 import linear
@@ -57,7 +59,7 @@ ENTRIES = {
     "send_dil": ("a_law", "octets"),
     "plan": ("k", "a_law", "spacing", "ceiling", "plan"),
 }
-KINDS = list(ENTRIES)  # in the order of forms.py, which has no cases of the last two
+KINDS = list(ENTRIES)  # the first seven in the order of forms.py, which has no cases of the others
 NUMBERS = {"a_law": ctypes.c_bool, "frames": ctypes.c_size_t, "bit_count": ctypes.c_size_t,
            "control": ctypes.c_bool, "sequence": ctypes.c_uint64,
            "k": ctypes.c_uint32, "spacing": ctypes.c_uint32, "ceiling": ctypes.c_uint64}
@@ -321,6 +323,7 @@ class Test:
         self.handed_in = {entry: {what: set() for what in IN_STATE}
                           for entry in ("send", "receive", "send_cp", "find_state")}
         self.promised, self.sequences, self.openings = Counter(), Counter(), Counter()
+        self.hits, self.changed = Counter(), {}
         self.next_count = self.next_start_count = 0
         self.held = {entry: set() for entry in ENTRIES}
         self.sets = [(entry, {number}) for entry in FAULTY for number in FAULTY[entry][1]]
@@ -661,6 +664,43 @@ class Test:
                 heard = cases_start.signed(draw, law, [draw.below(2) for _ in heard], range(128))
             self.find_state(heard, cases_frames.faulty_state(draw, {draw.pick((0, 0, 14, 18, 19))}))
 
+    def read_off(self, rec, law, form, line):
+        """(Data bits, marks, state left) of some calls of the receiver with the channel off."""
+        bits, marks = [], b""
+        while line:
+            count = self.draw.between(1, len(line) // 6)
+            width = count * frames.frame_bits(rec)
+            answer, left = self.call("receive", record.pack(rec), law, count, 0, line[:6 * count],
+                                     self.some((width + 7) // 8), self.some(count), self.some(HEARD_BYTES), form)
+            self.expect(answer == 0, "the receiver declines")
+            bits += [bit_at(left["bits"], n) for n in range(width)]
+            line, marks, form = line[6 * count:], marks + left["marks"], left["state"]
+        return bits, marks, form
+
+    def turned(self):
+        """One sign is flipped: by the codec's own bytes no mark changes, and just the bits that K and interval name.
+
+        Any frames go before, altered or not, and after the two that follow; the calls are cut twice, each in its
+        own way, from one state, which is any.
+        """
+        draw, law, drn, interval = self.draw, self.draw.below(2), self.draw.between(1, 28), self.draw.below(6)
+        rec, before, after = a_record(draw, drn), draw.below(4), draw.below(4)
+        _, sent = self.sent_in_calls(rec, law, frames.pack_state(a_state(draw)), [0] * (before + 3 + after))
+        line = [sent[n:n + 6] for n in range(0, len(sent), 6)]
+        for n in (*range(before), *range(before + 3, len(line))):
+            line[n] = draw.pick((line[n], draw.octets(6)))
+        line, form = b"".join(line), frames.pack_state(with_places(draw, a_state(draw)))
+        plain = self.read_off(rec, law, form, line)
+        other = self.read_off(rec, law, form, flip.flipped(line, before, interval))
+        if (drn, interval) not in self.changed:
+            self.changed[drn, interval] = flip.changed_places(drn + 14, interval)
+        first = before * frames.frame_bits(rec)
+        wanted = [first + place for place in self.changed[drn, interval]]
+        found = [n for n, (one, two) in enumerate(zip(plain[0], other[0])) if one != two]
+        self.expect(found == wanted, f"bits {found} change and not {wanted}")
+        self.expect(plain[1:] == other[1:], "a mark or the state left changes")
+        self.hits[drn + 14, interval] += 1
+
     def a_length(self, left):
         """The frames of a call of a long run."""
         return min(left, self.draw.pick((0, 1, 2, 63, 64, 65, self.draw.below(300), self.draw.below(1025))))
@@ -880,6 +920,7 @@ class Test:
         often = [self.a_run] * 40 + [self.marked] * 6 + [self.refused] * 6 + [self.flipped] * 6
         often += [self.each_count] * 4 + [self.distrusted] * 4
         often += [self.each_count_of_start] * 3 + [self.opened] * 3 + [self.started] * 2
+        often += [self.turned] * 4
         rarely = [self.bad_buffers, self.edges, self.sparse, self.listed] * 2 + [self.a_sequence]
         rarely += [self.samples] * 6 + [self.learning] + [self.planning] * 3
         try:
@@ -922,6 +963,9 @@ class Test:
         met = ("runs", "CPs", "bits as sent")
         print("CP and E_s before the data:", ", ".join(f"{what}: {self.openings[what]}" for what in met))
         lacking += [f"CP and E_s before the data, {what}" for what in met if not self.openings[what]]
+        each = [(k, interval) for k in range(15, 43) for interval in range(6)]
+        print(f"one flipped sign: runs: {sum(self.hits.values())}, K and interval: {len(self.hits)} of {len(each)}")
+        lacking += [f"a flipped sign, K and interval {hit}" for hit in each if not self.hits[hit]]
         if lacking and self.made >= ENOUGH:
             print("never came up:", ", ".join(lacking))
             return False

@@ -29,7 +29,7 @@ pub record Hit (r : Record) (l : Law) (t : LineState) (one other : List ReceiveC
   pub interval : i < 6
   -- 'flip the sign of one octet', all others 'unaltered'
   pub flipped : octetsRead t other ≡ flipAt l (n * 6 + i) (octetsRead t one)
-  -- 'in a good frame, with the next four frames read .. and good'. That of them which have bits that change are is enough: `FewFrames`
+  -- 'in a good frame, with the next four frames read .. and good': those that have bits that change are enough, two at most (`FewFrames`)
   pub read : n + framesAfter (K r) i < length (marksGiven t one)
   pub good : (j : ℕ) → Within (K r) i n j → Good (marksGiven t one) j
   -- 'With no control channel' in those frames
