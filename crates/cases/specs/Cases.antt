@@ -7,7 +7,7 @@ use lib.ListN.{set}
 use Rattle.standard.specs.First.{Answer}
 use Rattle.standard.specs.declared.Law.{Law}
 use Rattle.standard.specs.declared.Law.the-variants.{Mu, A}
-use Rattle.forms.specs.Coded.{coded}
+use Rattle.codes.specs.Coded.{coded}
 
 -- 0 is µ-law
 abbrev pub lawOf : ℕ → Law

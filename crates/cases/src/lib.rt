@@ -44,7 +44,7 @@ pub fn put_refusal(outcome: Outcome, reply: &mut [u8])
     requires { ⌜ 2 ≤ length (now reply) ⌝ }
     ensures { λ x. ⌜ now (reply .exit) ≡ withRefusal (outcomeAnswer outcome) (now (reply .entry)) ⌝ }
 {
-    let code = forms::code_of(outcome);
+    let code = codes::code_of(outcome);
     reply[0] = (code % 256) as u8;
     reply[1] = (code / 0x100_0000) as u8;
 }

@@ -18,7 +18,7 @@ use Rattle.standard.specs.declared.Record.{Record}
 use Rattle.standard.proofs.Lists.{length-listFrom, getD-list, listFrom-is, listFrom-ext}
 use Rattle.standard.proofs.Bits.{field-bit, field-is, field-number}
 use Rattle.forms.specs.RecordBytes.{recordByte, recordBytes, indexAt, halfAt, recordAt}
-use Rattle.forms.specs.StateBytes.{stateByte, stateBytes, lineBytes, sequenceByte, stateAt}
+use Rattle.states.specs.StateBytes.{stateByte, stateBytes, lineBytes, sequenceByte, stateAt}
 use Rattle.forms.specs.Back.{StateBack, LineBack, RecordBack}
 use Rattle.forms.proofs.Into.{half-byte}
 

@@ -10,7 +10,7 @@ use Rattle.standard.specs.Calls.{over}
 use Rattle.standard.specs.declared.Record.{Record}
 use Rattle.standard.specs.declared.LineState.{LineState}
 use Rattle.forms.specs.RecordBytes.{recordBytes, recordAt}
-use Rattle.forms.specs.StateBytes.{stateBytes, lineBytes, stateAt}
+use Rattle.states.specs.StateBytes.{stateBytes, lineBytes, stateAt}
 
 abbrev pub StateBack : Type 0
 StateBack = (st : LineState) (t : List ℕ) → st .history < 2 ^ 32 → length (st .sequence) ≡ 12 → stateAt (stateBytes st ++ t) ≡ st

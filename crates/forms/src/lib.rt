@@ -1,78 +1,25 @@
-// What crosses an interface: an outcome in one number, a record, a line state, a plan and what is said of a control sequence in bytes.
-use standard::LineState;
-use standard::Outcome;
+// What crosses an interface in bytes beside a line state: a record, a plan and what is said of a control sequence.
 use standard::Planned;
 use standard::Record;
-use standard::Refusal;
 use standard::Said;
 ghost use mathlib.Core.Path.{_≡_};
-ghost use Prim.Native.Nat.{_<_, _≤_};
+ghost use Prim.Native.Nat.{_≤_};
 ghost use mathlib.Core.List.{_++_};
 ghost use lib.ListN.{length, drop};
 ghost use Rattle.standard.specs.Lists.{listFrom};
 ghost use Rattle.standard.specs.Calls.{over};
-ghost use Rattle.standard.specs.Refusals.{refusalAnswer, outcomeAnswer};
-ghost use Rattle.forms.specs.Coded.{coded};
 ghost use Rattle.forms.specs.RecordBytes.{recordLength, recordByte, recordBytes, indexAt, halfAt, recordAt};
-ghost use Rattle.forms.specs.StateBytes.{stateLength, stateByte, stateBytes, lineBytes, sequenceByte, stateAt};
 ghost use Rattle.forms.specs.PlanBytes.{planLength, planBytes};
 ghost use Rattle.forms.specs.HeardBytes.{saidKind, saidBits, heardLength, heardBytes};
 
 // The bytes of a record.
 pub const RECORD_BYTES: usize = 105;
 
-// The bytes of a line state.
-pub const STATE_BYTES: usize = 21;
-
-// The bytes of its history and last sign, which stand first.
-const LINE_BYTES: usize = 5;
-
 // The bytes of a plan.
 pub const PLAN_BYTES: usize = 24;
 
 // The bytes of what is said of a control sequence.
 pub const HEARD_BYTES: usize = 8;
-
-// A refusal in one number.
-fn code_of_refusal(x: Refusal) -> u32
-    ensures { λ n. ⌜ n ≡ coded (refusalAnswer x) ⌝ }
-{
-    match x {
-        Refusal::CountExceedsBytes => 1,
-        Refusal::CountTooSmall => 2,
-        Refusal::SyncBroken => 3,
-        Refusal::IndexTooLarge => 4,
-        Refusal::LengthWrong => 5,
-        Refusal::StartBitSet => 6,
-        Refusal::CrcMismatch => 7,
-        Refusal::FixedBitWrong => 8,
-        Refusal::DrnTooLarge => 9,
-        Refusal::GrantedBelowFullRate => 10,
-        Refusal::ProductTooSmall => 11,
-        Refusal::MaskAboveIndices => 12,
-        Refusal::FramesAtCleardown => 13,
-        Refusal::HistoryTooLarge => 14,
-        Refusal::TooManyFrames => 15,
-        Refusal::InputTooShort => 16,
-        Refusal::OutputTooShort => 17,
-        Refusal::DoubtfulTooLarge => 18,
-        Refusal::PlaceTooLarge => 19,
-        Refusal::IntervalEmpty(i) => 25 + 0x100_0000 * (i as u32),
-        Refusal::RateOrSpacingOutside => 26,
-        Refusal::NoMask => 27,
-        Refusal::SumExceedsCeiling => 28,
-    }
-}
-
-// An outcome in one number.
-pub fn code_of(o: Outcome) -> u32
-    ensures { λ n. ⌜ n ≡ coded (outcomeAnswer o) ⌝ }
-{
-    match o {
-        Outcome::Done => 0,
-        Outcome::Refused(x) => code_of_refusal(x),
-    }
-}
 
 // The six indices, from byte 3 on.
 fn indices_at(bytes: &[u8]) -> [u8; 6]
@@ -141,91 +88,6 @@ pub fn record_into(r: Record, bytes: &mut [u8])
         bits::put_word(bytes, 9 + 8 * h, mask[h]);
         h += 1;
     }
-}
-
-// The sequence's bits, from byte 8 on.
-fn sequence_at(bytes: &[u8]) -> [u8; 12]
-    requires { ⌜ stateLength ≤ length (now bytes) ⌝ }
-    ensures { λ x. ⌜ x ≡ listFrom (sequenceByte (now (bytes .entry))) 0 12 ⌝ }
-{
-    let mut sequence = [0u8; 12];
-    let mut i = 0;
-    while i < 12 {
-        sequence[i] = bytes[8 + i];
-        i += 1;
-    }
-    sequence
-}
-
-// The line state in the first 21 bytes.
-pub fn state_from(bytes: &[u8]) -> LineState
-    requires { ⌜ stateLength ≤ length (now bytes) ⌝ }
-    ensures { λ r. ⌜ r ≡ stateAt (now (bytes .entry)) ⌝ }
-{
-    LineState {
-        history: bits::field_at(bytes, 0, 32) as u32,
-        sign: bytes[4] != 0,
-        doubtful: bytes[5],
-        place: bytes[6],
-        done: bytes[7],
-        sequence: sequence_at(bytes),
-        lost: bytes[20] != 0,
-    }
-}
-
-// Byte k of a line state.
-fn state_byte(s: LineState, k: usize) -> u8
-    requires { ⌜ k < stateLength ⌝ }
-    ensures { λ x. ⌜ x ≡ stateByte s k ⌝ }
-{
-    if k < 4 {
-        return ((s.history >> (8 * k)) % 256) as u8;
-    }
-    if k < 5 {
-        return s.sign as u8;
-    }
-    if k < 6 {
-        return s.doubtful;
-    }
-    if k < 7 {
-        return s.place;
-    }
-    if k < 8 {
-        return s.done;
-    }
-    if k < 20 {
-        let sequence = s.sequence;
-        return sequence[k - 8];
-    }
-    s.lost as u8
-}
-
-// Puts the first `count` bytes of a line state; the others stay.
-fn put_state(s: LineState, count: usize, bytes: &mut [u8])
-    requires { ⌜ (count ≤ stateLength) × (count ≤ length (now bytes)) ⌝ }
-    ensures { λ x. ⌜ now (bytes .exit) ≡ over (listFrom (stateByte s) 0 count) (now (bytes .entry)) ⌝ }
-{
-    let mut k = 0;
-    while k < count {
-        bytes[k] = state_byte(s, k);
-        k += 1;
-    }
-}
-
-// Puts a line state into the first 21 bytes; the others stay.
-pub fn state_into(s: LineState, bytes: &mut [u8])
-    requires { ⌜ stateLength ≤ length (now bytes) ⌝ }
-    ensures { λ x. ⌜ now (bytes .exit) ≡ over (stateBytes s) (now (bytes .entry)) ⌝ }
-{
-    put_state(s, STATE_BYTES, bytes);
-}
-
-// Puts the history and the last sign of a line state into the first 5 bytes; the others stay.
-pub fn line_into(s: LineState, bytes: &mut [u8])
-    requires { ⌜ stateLength ≤ length (now bytes) ⌝ }
-    ensures { λ x. ⌜ now (bytes .exit) ≡ over (lineBytes s) (now (bytes .entry)) ⌝ }
-{
-    put_state(s, LINE_BYTES, bytes);
 }
 
 // Puts the mask and its sum into the first 24 bytes; the others stay.

@@ -325,7 +325,7 @@ fn after_call(
     ensures { λ x. ⌜ x .held < 8 ⌝ }
 {
     let outcome = done.outcome;
-    let code = forms::code_of(outcome);
+    let code = codes::code_of(outcome);
     if code != 0 {
         return ended(s, Trouble::Refused(code));
     }

@@ -51,7 +51,7 @@ struct Step {
 fn write_octets(e: Ends, done: FramesDone, octets: &[u8]) -> Step {
     let state = done.state;
     let outcome = done.outcome;
-    let code = forms::code_of(outcome);
+    let code = codes::code_of(outcome);
     if code != 0 {
         return Step {
             state,

@@ -33,9 +33,10 @@ use Rattle.theorems_cp.specs.Examples.{common}
 use Rattle.theorems.specs.Runs.{overCalls, AllCalls, clean, Carried, Delivered}
 use Rattle.theorems.specs.Counts.{Counted}
 use Rattle.forms.specs.RecordBytes.{recordByte, recordBytes, recordAt}
-use Rattle.forms.specs.StateBytes.{stateByte, stateBytes, lineBytes, stateAt}
+use Rattle.states.specs.StateBytes.{stateByte, stateBytes, lineBytes, stateAt}
 use Rattle.forms.specs.HeardBytes.{saidKind, saidBits, heardByte, heardBytes}
-use Rattle.v91_c.specs.Interface.{answered, frameAnswer, stateLeft, v91Send, thenShort, v91Receive, v91SendCp, v91FindState}
+use Rattle.c_calls.specs.Answered.{answered, frameAnswer, stateLeft, thenShort}
+use Rattle.v91_c.specs.Interface.{v91Send, v91Receive, v91SendCp, v91FindState}
 use Rattle.theorems_c.specs.Runs.{CSend, cSent, cMessage, cSendChoices, CSendsWith, CReceive, cReceiveLeft, cOctetsRead, cHandedOver}
 use Rattle.theorems_c.specs.Runs.{cMarksGiven, cReceiveChoices, cFramesRead, cStateBefore, CReceivesWith, CRun, cSaidAt, cSaidGiven}
 use Rattle.theorems_c.specs.Start.{CSendCp, CStart}

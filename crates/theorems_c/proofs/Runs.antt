@@ -38,12 +38,13 @@ use Rattle.theorems.specs.Channel.{spoken, saidAt, saidGiven}
 use Rattle.theorems.proofs.Runs.{runs, messages-differ}
 use Rattle.theorems.proofs.Counts.{counts}
 use Rattle.theorems.proofs.OneSequence.{calls-say}
-use Rattle.forms.specs.Coded.{coded}
+use Rattle.codes.specs.Coded.{coded}
 use Rattle.forms.specs.RecordBytes.{recordLength, recordAt}
-use Rattle.forms.specs.StateBytes.{stateLength, stateBytes, sequenceByte, stateAt}
+use Rattle.states.specs.StateBytes.{stateLength, stateBytes, sequenceByte, stateAt}
 use Rattle.forms.specs.HeardBytes.{saidKind, heardByte, heardLength, heardBytes}
 use Rattle.forms.proofs.Back.{state-back, record-back}
-use Rattle.v91_c.specs.Interface.{lawOf, answered, frameAnswer, stateLeft, v91ReadCp, AfterSend, v91Send, thenShort, AfterReceive}
+use Rattle.c_calls.specs.Answered.{lawOf, answered, frameAnswer, stateLeft, thenShort}
+use Rattle.v91_c.specs.Interface.{v91ReadCp, AfterSend, v91Send, AfterReceive}
 use Rattle.v91_c.specs.Interface.{v91Receive}
 use Rattle.theorems_c.specs.Runs.{CSend, afterSend, cSends, cSendLeft, cMessage, cSent, cSendChoices, CSendsWith, CReceive}
 use Rattle.theorems_c.specs.Runs.{afterReceive, cReceives, cReceiveLeft, cOctetsRead, cHandedOver, cMarksGiven, cReceiveChoices}

@@ -20,11 +20,12 @@ use Rattle.standard.proofs.Lists.{and-both, of-either}
 use Rattle.theorems.specs.Runs.{Same}
 use Rattle.theorems_start.specs.Start.{sendsCp, cpSent}
 use Rattle.theorems_start.proofs.Start.{left-small, found-small, states-follow}
-use Rattle.forms.specs.Coded.{coded}
+use Rattle.codes.specs.Coded.{coded}
 use Rattle.forms.specs.RecordBytes.{recordAt}
-use Rattle.forms.specs.StateBytes.{stateLength, stateAt}
+use Rattle.states.specs.StateBytes.{stateLength, stateAt}
 use Rattle.forms.proofs.Back.{line-back}
-use Rattle.v91_c.specs.Interface.{lawOf, answered, frameAnswer, v91SendCp, v91FindState}
+use Rattle.c_calls.specs.Answered.{lawOf, answered, frameAnswer}
+use Rattle.v91_c.specs.Interface.{v91SendCp, v91FindState}
 use Rattle.theorems_c.specs.Start.{CSendCp, afterSendCp, cSendsCp, cCpSent, CStartDelivers}
 use Rattle.theorems_c.proofs.Runs.{entry-took, c-runs}
 

@@ -18,9 +18,10 @@ use Rattle.standard.specs.declared.Said.{Said}
 use Rattle.theorems.specs.Runs.{overCalls, AllCalls, Damage, Carried, Same, Delivered}
 use Rattle.theorems.specs.Counts.{AlteredMarked, ColdOrSame, Counted}
 use Rattle.forms.specs.RecordBytes.{recordAt}
-use Rattle.forms.specs.StateBytes.{stateAt}
+use Rattle.states.specs.StateBytes.{stateAt}
 use Rattle.forms.specs.HeardBytes.{heardLength, heardBytes}
-use Rattle.v91_c.specs.Interface.{lawOf, v91ReadCp, AfterSend, v91Send, AfterReceive, v91Receive}
+use Rattle.c_calls.specs.Answered.{lawOf}
+use Rattle.v91_c.specs.Interface.{v91ReadCp, AfterSend, v91Send, AfterReceive, v91Receive}
 
 -- ---- calls of v91_send: all that one is lent but the line state, which is the bytes s
 

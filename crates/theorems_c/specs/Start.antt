@@ -10,7 +10,7 @@ use Rattle.standard.specs.declared.Law.{Law}
 use Rattle.standard.specs.declared.Record.{Record}
 use Rattle.theorems.specs.Runs.{Damage}
 use Rattle.theorems_start.specs.Start.{FromTheFirst}
-use Rattle.forms.specs.StateBytes.{stateLength, stateAt}
+use Rattle.states.specs.StateBytes.{stateLength, stateAt}
 use Rattle.v91_c.specs.Interface.{AfterSendCp, v91SendCp, v91FindState}
 use Rattle.theorems_c.specs.Runs.{CSend, cMessage, cSendChoices, CReceive, cHandedOver, cMarksGiven, CRun}
 

@@ -123,7 +123,7 @@ fn load(e: Ends, name: &[u8], bytes: &[u8]) -> Loaded
     let bit_count = bit_count_of(count);
     let read = cp::read_cp(bytes, bit_count);
     let outcome = read.outcome;
-    let code = forms::code_of(outcome);
+    let code = codes::code_of(outcome);
     if code != 0 {
         refuse(e, name, layout::record_in(bytes), count, code);
     }

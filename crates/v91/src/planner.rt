@@ -146,7 +146,7 @@ fn make_plan(
 {
     let planned = plan::plan(k, law, spacing, ceiling);
     let outcome = planned.outcome;
-    match forms::code_of(outcome) {
+    match codes::code_of(outcome) {
         0 => write_plan(e, planned, k, law, spacing, form, word),
         27 => refuse_spacing(e, k, law, spacing),
         _ => refuse_ceiling(e, k, law, spacing, ceiling, word),

@@ -2,12 +2,12 @@
 use mathlib.Core.Path.{_≡_, refl, sym, ap, _∙_}
 use mathlib.Core.Logic.{_⊎_, inl, inr}
 use Prim.Native.Nat.{ℕ, _^_, _≤_, _<_}
-use mathlib.Core.Bool.{Bool, true, false, true≢false, not, _&&_, _||_, and-eq-true-iff}
+use mathlib.Core.Bool.{Bool, true, false, true≢false, _||_}
 use mathlib.Core.List.{List, [], _∷_, _++_}
 use native.Mathlib.Nat.{eq-zero-or-pos}
 use native.Mathlib.Omega.{arith}
-use borrow.Author.Tests.{lt-ltb, le-ltb, ltb-false, eqb-true, eq-eqb, not-true}
-use lib.Dec.{T, eqb, ltb, lit<}
+use borrow.Author.Tests.{lt-ltb, le-ltb, ltb-false, eqb-true, eq-eqb}
+use lib.Dec.{T, ltb, lit<}
 use lib.ListN.{length}
 use Rattle.standard.specs.First.{Answer, bare, Test, test, first}
 use Rattle.standard.specs.Record.{topIndex}
@@ -22,39 +22,21 @@ use Rattle.standard.specs.Calls.{findLeft}
 use Rattle.standard.specs.declared.Law.{Law}
 use Rattle.standard.specs.declared.LineState.{LineState}
 use Rattle.standard.specs.declared.Outcome.{Outcome}
-use Rattle.standard.specs.declared.Outcome.the-variants.{Done, Refused}
 use Rattle.standard.specs.declared.Record.{Record}
 use Rattle.standard.specs.declared.Said.{Said}
 use Rattle.standard.proofs.Lists.{or-none}
 use Rattle.standard.proofs.First.{numbered, none-first, first-append, first-left}
-use Rattle.standard.proofs.Stages.{refused-not}
 use Rattle.standard.proofs.Dil.{length-defaultDil}
 use Rattle.standard.proofs.Start.{length-cpAndEnd}
 use Rattle.standard.proofs.Refusals.{top-lt, read-numbered, write-numbered, send-cp-numbered, plan-numbered}
-use Rattle.forms.specs.Coded.{coded}
+use Rattle.codes.specs.Coded.{coded}
 use Rattle.forms.specs.RecordBytes.{recordLength, recordBytes, recordAt}
-use Rattle.forms.specs.StateBytes.{stateLength, stateBytes, lineBytes, stateAt}
+use Rattle.states.specs.StateBytes.{stateLength, lineBytes, stateAt}
 use Rattle.forms.specs.PlanBytes.{planLength, planBytes}
 use Rattle.forms.specs.HeardBytes.{heardLength, heardBytes}
-use Rattle.v91_c.specs.Interface.{lawOf, answered, frameAnswer, stateLeft, thenShort, v91ReadCp, v91WriteCp, v91Send, v91Receive}
-use Rattle.v91_c.specs.Interface.{v91SendDil, v91SendCp, v91FindState, v91Plan}
-
--- ---- an outcome in one number: 0 where nothing is refused, and only there
-
-module _ (o : Outcome) (k : ℕ) (ek : k ≡ coded (outcomeAnswer o)) where
-  code-done : k ≡ 0 → accepted (outcomeAnswer o) ≡ true
-  code-done z = eq-eqb (outcomeAnswer o .number) 0 (omega arith)
-
-  code-refused : (k ≡ 0 → ⊥) → accepted (outcomeAnswer o) ≡ false
-  code-refused p = go o refl
-    where
-      go : (x : Outcome) → x ≡ o → accepted (outcomeAnswer o) ≡ false
-      go Done e = absurd (p (ek ∙ ap (λ (y : Outcome). coded (outcomeAnswer y)) (sym e)))
-      go (Refused x) e = refused-not o x (outcomeAnswer o) (sym e) refl
-
-coded-zero : (o : Outcome) → accepted (outcomeAnswer o) ≡ true → coded (outcomeAnswer o) ≡ 0
-coded-zero Done e = refl
-coded-zero (Refused x) e = absurd (true≢false (sym e ∙ refused-not (Refused x) x _ refl refl))
+use Rattle.c_calls.specs.Answered.{lawOf, answered, frameAnswer, thenShort}
+use Rattle.c_calls.proofs.Ends.{code-done, code-refused, coded-zero, Ended, short-not}
+use Rattle.v91_c.specs.Interface.{v91ReadCp, v91WriteCp, v91Send, v91Receive, v91SendDil, v91SendCp, v91FindState, v91Plan}
 
 -- a list of tests that refuses
 refused-first : (ts : List Test) → accepted (first ts) ≡ false → 0 < first ts .number
@@ -150,27 +132,6 @@ module _ (rec state : List ℕ) (a : Answer) where
 pub both-long : (rec state : ℕ) → (ltb rec recordLength || ltb state stateLength) ≡ false → (recordLength ≤ rec) × (stateLength ≤ state)
 both-long rec state h = let p = or-none _ _ h in (ltb-false _ _ (p .0), ltb-false _ _ (p .1))
 
--- the end of a call of n frames with the outcome o: the bytes s of the line state after it
-abbrev Ended : Outcome → ℕ → LineState → List ℕ → List ℕ → Type 0
-Ended o n left state s = s ≡ answered (outcomeAnswer o) (stateLeft n left state) (λ k. state)
-
-module _ (o : Outcome) (k : ℕ) (ek : k ≡ coded (outcomeAnswer o)) (n : ℕ) (left : LineState) (state : List ℕ) where
-  pub end-put : (eqb k 0 && not (eqb n 0)) ≡ true → (0 ≡ coded (outcomeAnswer o)) × Ended o n left state (over (stateBytes left) state)
-  unfolding answered stateLeft
-  end-put t =
-      let p = and-eq-true-iff (eqb k 0) (not (eqb n 0)) .0 t in
-      let z = eqb-true k 0 (p .0) in
-      (sym z ∙ ek, rw (code-done o k ek z, not-true (eqb n 0) (p .1)))
-
-  pub end-kept : (eqb k 0 && not (eqb n 0)) ≡ false → Ended o n left state state
-  unfolding answered stateLeft
-  end-kept t = go (eqb n 0) refl (accepted (outcomeAnswer o)) refl
-    where
-      go : (x : Bool) → eqb n 0 ≡ x → (b : Bool) → accepted (outcomeAnswer o) ≡ b → Ended o n left state state
-      go x e false f = rw f
-      go true e true f = rw (f, e)
-      go false e true f = absurd (true≢false (sym (ap (λ (m : ℕ). eqb m 0 && true) (ek ∙ coded-zero o f)) ∙ rw e at t))
-
 -- ---- v91_send
 
 module _ (rec : List ℕ) (a : Bool) (n : ℕ) (on : Bool) (w : ℕ) (bits octets state : List ℕ) where
@@ -194,30 +155,6 @@ module _ (rec : List ℕ) (a : Bool) (n : ℕ) (on : Bool) (w : ℕ) (bits octet
       go false f = rw (frame-long rec state _ h, eos, q, ← er, ← es, ← el, ← eo, f, ek)
 
 -- ---- v91_receive
-
--- a short `heard`
-module _ (o : Outcome) (k : ℕ) (ek : k ≡ coded (outcomeAnswer o)) where
-  pub unheard-done : k ≡ 0 → 17 ≡ coded (thenShort true (outcomeAnswer o))
-  unfolding thenShort first
-  unheard-done z = rw (code-done o k ek z)
-
-  pub unheard-refused : (k ≡ 0 → ⊥) → k ≡ coded (thenShort true (outcomeAnswer o))
-  unfolding thenShort
-  unheard-refused p = rw (code-refused o k ek p) ek
-
-  pub heard-put : k ≡ 0 → (x y : List ℕ) → x ≡ answered (outcomeAnswer o) x (λ n. y)
-  unfolding answered
-  heard-put z x y = rw (code-done o k ek z)
-
-  pub heard-kept : (k ≡ 0 → ⊥) → (x y : List ℕ) → y ≡ answered (outcomeAnswer o) x (λ n. y)
-  unfolding answered
-  heard-kept p x y = rw (code-refused o k ek p)
-
--- the answer with a short `heard` is no 0
-short-not : (o : Outcome) → accepted (thenShort true (outcomeAnswer o)) ≡ false
-unfolding thenShort first
-short-not Done = refl
-short-not (Refused x) = let e = refused-not (Refused x) x _ refl refl in rw e e
 
 module _ (rec : List ℕ) (a : Bool) (n : ℕ) (on : Bool) (octets bits marks heard state : List ℕ) where
   abbrev Unchanged : ℕ → Type 0

@@ -1,37 +1,20 @@
 -- What each function of the C interface answers, and its buffers afterwards, as interop/v91.h has them. Assumes nothing.
 use Prim.Native.Nat.{ℕ}
-use mathlib.Core.Bool.{Bool, true, false, cond}
+use mathlib.Core.Bool.{Bool}
 use mathlib.Core.List.{List, [], _∷_, _++_}
-use lib.Dec.{eqb}
 use lib.ListN.{length}
-use Rattle.standard.specs.First.{Answer, Test, test, first}
+use Rattle.standard.specs.First.{test, first}
 use Rattle.standard.specs.Refusals.{shorter, readTests, planTests}
 use Rattle.standard.specs.Dil.{defaultDil}
-use Rattle.standard.specs.Calls.{accepted, over, readCall, readRecord, writeCall, writeRefusal, writeBitCount, writeBytes, sendCall}
-use Rattle.standard.specs.Calls.{sendRefusal, sendLeft, sendOctets, receiveCall, receiveRefusal, receiveLeft, receiveBytes, receiveMarked}
-use Rattle.standard.specs.Calls.{receiveSays, dilCall, dilRefusal, dilOctets, cpCall, sendCpRefusal, sendCpCount, sendCpOctets, sendCpLeft}
+use Rattle.standard.specs.Calls.{over, readCall, readRecord, writeCall, writeRefusal, writeBitCount, writeBytes, sendCall, sendRefusal}
+use Rattle.standard.specs.Calls.{sendLeft, sendOctets, receiveCall, receiveRefusal, receiveLeft, receiveBytes, receiveMarked, receiveSays}
+use Rattle.standard.specs.Calls.{dilCall, dilRefusal, dilOctets, cpCall, sendCpRefusal, sendCpCount, sendCpOctets, sendCpLeft}
 use Rattle.standard.specs.Calls.{findRefusal, findLeft, planCall, planHalves, planSum}
-use Rattle.standard.specs.declared.Law.{Law}
-use Rattle.standard.specs.declared.Law.the-variants.{Mu, A}
-use Rattle.standard.specs.declared.LineState.{LineState}
-use Rattle.forms.specs.Coded.{coded}
+use Rattle.c_calls.specs.Answered.{lawOf, otherwise, answered, frameAnswer, stateLeft, thenShort}
 use Rattle.forms.specs.RecordBytes.{recordLength, recordBytes, recordAt}
-use Rattle.forms.specs.StateBytes.{stateLength, stateBytes, lineBytes, stateAt}
+use Rattle.states.specs.StateBytes.{stateLength, lineBytes, stateAt}
 use Rattle.forms.specs.PlanBytes.{planLength, planBytes}
 use Rattle.forms.specs.HeardBytes.{heardLength, heardBytes}
-
--- the flag a_law
-abbrev pub lawOf : Bool → Law
-lawOf true = A
-lawOf false = Mu
-
--- what is answered where no test before it applies
-abbrev pub otherwise : Answer → Test
-otherwise a = record { answer = a; applies = true }
-
--- done where nothing is refused, else what is left of a call that answers a refusal in one number
-unfoldable pub answered : {X : Type 0} → Answer → X → (ℕ → X) → X
-answered a done refused = cond (accepted a) done (refused (coded a))
 
 -- ---- v91_read_cp: the record is a buffer to be written, so 17 comes last
 
@@ -60,14 +43,6 @@ v91WriteCp rec cp =
 
 -- ---- v91_send
 
--- what a call with a record and a line state is answered: a short record, then a short line state, then the entry's own answer
-unfoldable pub frameAnswer : List ℕ → List ℕ → Answer → Answer
-frameAnswer rec state a = first (test 16 (shorter rec recordLength) ∷ test 16 (shorter state stateLength) ∷ otherwise a ∷ [])
-
--- the bytes of the line state after an accepted call: 'N = 0 .. then writes nothing and keeps the state'
-unfoldable pub stateLeft : ℕ → LineState → List ℕ → List ℕ
-stateLeft frames st state = cond (eqb frames 0) state (over (stateBytes st) state)
-
 pub record AfterSend : Type 0 where
   pub answer : ℕ
   pub octets : List ℕ
@@ -82,10 +57,6 @@ v91Send rec aLaw frames control word bits octets state =
     (λ n. record { answer = n; octets = octets; state = state })
 
 -- ---- v91_receive
-
--- a buffer more among 17's, which is the last test: whether it is shorter than needed
-unfoldable pub thenShort : Bool → Answer → Answer
-thenShort short a = cond (accepted a) (first (test 17 short ∷ [])) a
 
 pub record AfterReceive : Type 0 where
   pub answer : ℕ

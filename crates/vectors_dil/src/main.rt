@@ -61,7 +61,7 @@ fn print_octets(octets: &[u8]) {
 // The lines of a call with a buffer.
 fn print_call(law: Law, name: &[u8], octets: &mut [u8]) {
     fill(octets);
-    let refusal = forms::code_of(dil::send_dil(law, octets));
+    let refusal = codes::code_of(dil::send_dil(law, octets));
     write_all(1, name);
     write_all(1, b" ");
     print_decimal(1, octets.len() as u64);

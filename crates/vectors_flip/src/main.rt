@@ -31,7 +31,7 @@ fn setup_at(call: &[u8]) -> Setup
     Setup {
         cp: forms::record_from(&call[1..]),
         law: law_of(call[106]),
-        state: forms::state_from(&call[107..]),
+        state: states::state_from(&call[107..]),
     }
 }
 
@@ -52,7 +52,7 @@ fn put_left(read: FramesRead, reply: &mut [u8])
     let outcome = read.outcome;
     let state = read.state;
     put_refusal(outcome, reply);
-    forms::state_into(state, &mut reply[2..]);
+    states::state_into(state, &mut reply[2..]);
 }
 
 // Receives by way of `marks`, and puts the answer; nothing where there is no room.

@@ -38,7 +38,7 @@ fn setup_at(call: &[u8]) -> Setup
     let cp = forms::record_from(&call[1..]);
     let law = law_of(call[106]);
     let frames = bits::field_at(call, 856, 64) as usize;
-    let state = forms::state_from(&call[115..]);
+    let state = states::state_from(&call[115..]);
     Setup {
         cp,
         law,
@@ -53,7 +53,7 @@ fn put_left(outcome: Outcome, state: LineState, reply: &mut [u8])
     requires { ⌜ 23 ≤ length (now reply) ⌝ }
 {
     put_refusal(outcome, reply);
-    forms::state_into(state, &mut reply[2..]);
+    states::state_into(state, &mut reply[2..]);
 }
 
 // Puts the answer of the sender.

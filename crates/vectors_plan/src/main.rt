@@ -18,7 +18,7 @@ fn print_number(n: u64) {
 fn print_call(k: u32, law: Law, name: &[u8], spacing: u32, ceiling: u64) -> Planned {
     let planned = plan::plan(k, law, spacing, ceiling);
     let outcome = planned.outcome;
-    let refusal = forms::code_of(outcome);
+    let refusal = codes::code_of(outcome);
     let mask = planned.mask;
     print_number(k as u64);
     write_all(1, name);

@@ -20,7 +20,7 @@ fn send_into(call: &[u8], octets: &mut [u8]) -> CpSent
     start::send_cp(
         forms::record_from(&call[1..]),
         law_of(call[106]),
-        forms::state_from(&call[107..]),
+        states::state_from(&call[107..]),
         octets,
     )
 }
@@ -33,7 +33,7 @@ fn put_sent(sent: CpSent, reply: &mut [u8])
     let state = sent.state;
     put_refusal(outcome, reply);
     bits::put_field(reply, 16, 16, sent.octet_count as u64);
-    forms::state_into(state, &mut reply[4..]);
+    states::state_into(state, &mut reply[4..]);
 }
 
 // Answers a call of the sender; nothing where the call is too short or the reply has no room.
@@ -61,11 +61,11 @@ fn answer_find(call: &[u8], reply: &mut [u8]) -> usize
     if call.len() < 22 {
         return 0;
     }
-    let found = start::find_state(&call[22..], forms::state_from(&call[1..]));
+    let found = start::find_state(&call[22..], states::state_from(&call[1..]));
     let outcome = found.outcome;
     let state = found.state;
     put_refusal(outcome, reply);
-    forms::state_into(state, &mut reply[2..]);
+    states::state_into(state, &mut reply[2..]);
     23
 }
 

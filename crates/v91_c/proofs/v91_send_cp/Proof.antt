@@ -6,7 +6,7 @@ use borrow.Author.Needs.{needs}
 use lib.ListN.{length}
 use Rattle.standard.specs.Calls.{cpCall}
 use Rattle.forms.specs.RecordBytes.{recordLength}
-use Rattle.forms.specs.StateBytes.{stateLength}
+use Rattle.states.specs.StateBytes.{stateLength}
 use Rattle.v91_c.proofs.Answers.{both-long, octets-fit, send-cp-short, send-cp-refused, send-cp-done}
 use Rattle.v91_c.proofs.v91_send_cp.Statement.{statement}
 use Rattle.v91_c.proofs.v91_send_cp.Tie as tie
