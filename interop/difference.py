@@ -103,7 +103,8 @@ START_GROUPS = (
     cases_start.bounds, cases_start.faulty_cases, cases_start.sparse_records, cases_start.cp_after_cp,
     cases_start.counts_of_octets, cases_start.each_bit_found, cases_start.any_octets, cases_start.octets_sent,
     cases_start.states_beyond)
-ENOUGH = 20_000  # from so many calls on, all of these have to come up
+EACH_HIT = [(k, interval) for k in range(15, 43) for interval in range(6)]
+ENOUGH = 50_000  # from so many calls on, all of these have to come up
 
 
 # Answers in C
@@ -323,7 +324,7 @@ class Test:
         self.handed_in = {entry: {what: set() for what in IN_STATE}
                           for entry in ("send", "receive", "send_cp", "find_state")}
         self.promised, self.sequences, self.openings = Counter(), Counter(), Counter()
-        self.hits, self.changed = Counter(), {}
+        self.hits, self.next_hit = Counter(), 0
         self.next_count = self.next_start_count = 0
         self.held = {entry: set() for entry in ENTRIES}
         self.sets = [(entry, {number}) for entry in FAULTY for number in FAULTY[entry][1]]
@@ -678,13 +679,19 @@ class Test:
         return bits, marks, form
 
     def turned(self):
+        """The next of all K and intervals, one sign of which is flipped."""
+        for _ in range(4):
+            self.hit(*EACH_HIT[self.next_hit % len(EACH_HIT)])
+            self.next_hit += 1
+
+    def hit(self, k, interval):
         """One sign is flipped: by the codec's own bytes no mark changes, and just the bits that K and interval name.
 
         Any frames go before, altered or not, and after the two that follow; the calls are cut twice, each in its
         own way, from one state, which is any.
         """
-        draw, law, drn, interval = self.draw, self.draw.below(2), self.draw.between(1, 28), self.draw.below(6)
-        rec, before, after = a_record(draw, drn), draw.below(4), draw.below(4)
+        draw, law, rec = self.draw, self.draw.below(2), a_record(self.draw, k - 14)
+        before, after = draw.below(4), draw.below(4)
         _, sent = self.sent_in_calls(rec, law, frames.pack_state(a_state(draw)), [0] * (before + 3 + after))
         line = [sent[n:n + 6] for n in range(0, len(sent), 6)]
         for n in (*range(before), *range(before + 3, len(line))):
@@ -692,14 +699,12 @@ class Test:
         line, form = b"".join(line), frames.pack_state(with_places(draw, a_state(draw)))
         plain = self.read_off(rec, law, form, line)
         other = self.read_off(rec, law, form, flip.flipped(line, before, interval))
-        if (drn, interval) not in self.changed:
-            self.changed[drn, interval] = flip.changed_places(drn + 14, interval)
         first = before * frames.frame_bits(rec)
-        wanted = [first + place for place in self.changed[drn, interval]]
+        wanted = [first + place for place in flip.changed_places(k, interval)]
         found = [n for n, (one, two) in enumerate(zip(plain[0], other[0])) if one != two]
         self.expect(found == wanted, f"bits {found} change and not {wanted}")
         self.expect(plain[1:] == other[1:], "a mark or the state left changes")
-        self.hits[drn + 14, interval] += 1
+        self.hits[k, interval] += 1
 
     def a_length(self, left):
         """The frames of a call of a long run."""
@@ -920,7 +925,7 @@ class Test:
         often = [self.a_run] * 40 + [self.marked] * 6 + [self.refused] * 6 + [self.flipped] * 6
         often += [self.each_count] * 4 + [self.distrusted] * 4
         often += [self.each_count_of_start] * 3 + [self.opened] * 3 + [self.started] * 2
-        often += [self.turned] * 4
+        often += [self.turned] * 2
         rarely = [self.bad_buffers, self.edges, self.sparse, self.listed] * 2 + [self.a_sequence]
         rarely += [self.samples] * 6 + [self.learning] + [self.planning] * 3
         try:
@@ -963,9 +968,9 @@ class Test:
         met = ("runs", "CPs", "bits as sent")
         print("CP and E_s before the data:", ", ".join(f"{what}: {self.openings[what]}" for what in met))
         lacking += [f"CP and E_s before the data, {what}" for what in met if not self.openings[what]]
-        each = [(k, interval) for k in range(15, 43) for interval in range(6)]
-        print(f"one flipped sign: runs: {sum(self.hits.values())}, K and interval: {len(self.hits)} of {len(each)}")
-        lacking += [f"a flipped sign, K and interval {hit}" for hit in each if not self.hits[hit]]
+        runs = sum(self.hits.values())
+        print(f"one flipped sign: runs: {runs}, K and interval: {len(self.hits)} of {len(EACH_HIT)}")
+        lacking += [f"a flipped sign, K and interval {hit}" for hit in EACH_HIT if not self.hits[hit]]
         if lacking and self.made >= ENOUGH:
             print("never came up:", ", ".join(lacking))
             return False
