@@ -37,6 +37,6 @@ changes k i p = reaches i p ⊕ reaches (nextSign k i) p
 unfoldable pub changedPlaces : ℕ → ℕ → List ℕ
 changedPlaces k i = listWhere (changes k i) 0 (nextSign k i + 24)
 
--- how many frames after the one with that sign they come to
+-- the last of them is so many frames after the one with that sign
 unfoldable pub framesAfter : ℕ → ℕ → ℕ
 framesAfter k i = (nextSign k i + 23) / (k + 6)

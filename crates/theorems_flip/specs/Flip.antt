@@ -16,7 +16,7 @@ use Rattle.standard.specs.declared.Record.{Record}
 use Rattle.theorems.specs.Runs.{octetsRead, handedOver, marksGiven, receiveChoices, ReceivesWith, begins}
 use Rattle.theorems.specs.Counts.{Good}
 
--- frame j is frame n or one of those after it to which the change comes
+-- frame j is frame n or one after it, up to the last in which bits change
 abbrev pub Within : ℕ → ℕ → ℕ → ℕ → Type 0
 Within k i n j = (n ≤ j) × (j ≤ n + framesAfter k i)
 
