@@ -55,7 +55,15 @@ begun = state 77 true
 abbrev clear : List ℕ
 clear = line (0x7e ∷ 0x7e ∷ 0xfd ∷ 0xfd ∷ 0xff ∷ 0x7d ∷ [])
 
-hit : Hit common Mu begun (one clear) (other (flipAt Mu 11 clear)) 1 5
+reads : ReceivesWith common Mu begun (one clear) × ReceivesWith common Mu begun (other (flipAt Mu 11 clear))
+unfolding AllCalls ReceivesWith
+reads = (
+  (λ e. (refl, refl), (λ e. (refl, refl), (λ e. (refl, refl), (λ e. (refl, refl), tt)))),
+  (λ e. (refl, refl), (λ e. (refl, refl), (λ e. (refl, refl), tt))),
+)
+
+hit : Hit common Mu 1 5 (receiveChoices begun (one clear)) (receiveChoices begun (other (flipAt Mu 11 clear)))
+    (octetsRead begun (one clear)) (octetsRead begun (other (flipAt Mu 11 clear))) (marksGiven begun (one clear))
 unfolding listFrom any largest listWhere parts joined each after first bitAt bitsIn field bytesOf nth numberOf bitsOf topIndex inMask taps push
     pushAll descramble sizeOf labelOf member sizes product number signBits positiveOctet octet signOf ucodeOf dataBits receivedNumber
     outsideTest outsideTests markTests mark heardBits heardControl heardData receiveFrame sequenceSoFar lostSoFar doubtfulAfter receiveNext
@@ -65,8 +73,6 @@ unfolding listFrom any largest listWhere parts joined each after first bitAt bit
     receiveMarked overCalls AllCalls octetsRead handedOver marksGiven receiveChoices ReceivesWith differing
 hit =
     record {
-      receiver = (λ e. (refl, refl), (λ e. (refl, refl), (λ e. (refl, refl), (λ e. (refl, refl), tt))));
-      receiver′ = (λ e. (refl, refl), (λ e. (refl, refl), (λ e. (refl, refl), tt)));
       choices = refl;
       interval = lit< tt;
       flipped = refl;
@@ -99,7 +105,7 @@ unfolding listFrom any largest listWhere parts joined each after first bitAt bit
     intervalEmpty productTooSmall maskAboveIndices framesAtCleardown historyTooLarge doubtfulTooLarge placeTooLarge tooManyFrames emptyTest
     emptyTests rateTests recordTests stateTests lineTests bufferTests frameTests receiveRefusal receiveOctets receiveLeft receiveBytes
     receiveMarked overCalls AllCalls octetsRead marksGiven receiveChoices ReceivesWith changes changedPlaces
-instance-flipped = flip-costs common Mu begun (one clear) (other (flipAt Mu 11 clear)) 1 5 hit .places
+instance-flipped = flip-costs common Mu begun (one clear) (other (flipAt Mu 11 clear)) 1 5 (reads .0) (reads .1) hit .places
 
 -- with its second frame after that marked five bits change: two good frames are needed
 abbrev marred : List ℕ

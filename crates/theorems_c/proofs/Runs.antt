@@ -1,4 +1,5 @@
--- Demand 3, A.1 and A.2 of the C functions: an accepted call does what the entry does in the state that the bytes hold. Assumes nothing.
+-- Demand 3, A.1, A.2 and A.13 of the C functions: an accepted call does what the entry does in the state that the bytes hold. Assumes
+-- nothing.
 use mathlib.Core.Path.{_≡_, refl, sym, ap, ap₂, _∙_, subst}
 use Prim.Native.Nat.{ℕ, _*_, _/_, _%_, _^_, _<_}
 use mathlib.Core.Bool.{Bool, true, false, true≢false, cond, _||_}
@@ -38,6 +39,7 @@ use Rattle.theorems.specs.Channel.{spoken, saidAt, saidGiven}
 use Rattle.theorems.proofs.Runs.{runs, messages-differ}
 use Rattle.theorems.proofs.Counts.{counts}
 use Rattle.theorems.proofs.OneSequence.{calls-say}
+use Rattle.theorems_flip.proofs.Flip.{flip-costs}
 use Rattle.codes.specs.Coded.{coded}
 use Rattle.forms.specs.RecordBytes.{recordLength, recordAt}
 use Rattle.states.specs.StateBytes.{stateLength, stateBytes, sequenceByte, stateAt}
@@ -46,6 +48,7 @@ use Rattle.forms.proofs.Back.{state-back, record-back}
 use Rattle.c_calls.specs.Answered.{lawOf, answered, frameAnswer, stateLeft, thenShort}
 use Rattle.v91_c.specs.Interface.{v91ReadCp, AfterSend, v91Send, AfterReceive}
 use Rattle.v91_c.specs.Interface.{v91Receive}
+use Rattle.theorems_c.specs.Flip.{CFlipCosts}
 use Rattle.theorems_c.specs.Runs.{CSend, afterSend, cSends, cSendLeft, cMessage, cSent, cSendChoices, CSendsWith, CReceive}
 use Rattle.theorems_c.specs.Runs.{afterReceive, cReceives, cReceiveLeft, cOctetsRead, cHandedOver, cMarksGiven, cReceiveChoices}
 use Rattle.theorems_c.specs.Runs.{cFramesRead, cStateBefore, CReceivesWith, CRun, CRunsDeliver, CMessagesDiffer, CCountsHold, cSaidAt}
@@ -386,6 +389,22 @@ c-counts r l s t sending receiving w line m run marked begun =
     )
     (counts r l (stateAt s) (stateAt t) (sendCalls s sending) (receiveCalls t receiving) w line m
     (same-run r l s t sending receiving w line m run) (rw (same-sent s sending, same-marks t receiving) at marked) begun)
+
+-- ---- A.13
+
+pub c-flip-costs : CFlipCosts
+c-flip-costs r l t one other n i w w′ h =
+    rw (
+      same-receive-choices t one,
+      same-given t one,
+      same-given t other,
+      same-marks t one,
+      same-marks t other,
+      same-left receive-follows t one,
+      same-left receive-follows t other,
+    )
+    (flip-costs r l (stateAt t) (receiveCalls t one) (receiveCalls t other) n i (same-receiver t one r l w) (same-receiver t other r l w′)
+    (rw (same-receive-choices t one, same-receive-choices t other, same-read t one, same-read t other, same-marks t one) at h))
 
 -- ---- A.2: what is said of sequences
 

@@ -73,7 +73,13 @@ all-plain r l (y ∷ ys) p = (p 0 (omega arith), all-plain r l ys (λ j h. p (su
 
 -- ---- the calls
 
-module _ {r : Record} {l : Law} {t : LineState} {one other : List ReceiveCall} {n i : ℕ} (u : Hit r l t one other n i) where
+-- the two lists, and what they have in common
+record Pair (r : Record) (l : Law) (t : LineState) (one other : List ReceiveCall) (n i : ℕ) : Type 0 where
+  receiver : ReceivesWith r l t one
+  receiver′ : ReceivesWith r l t other
+  hit : Hit r l n i (receiveChoices t one) (receiveChoices t other) (octetsRead t one) (octetsRead t other) (marksGiven t one)
+
+module _ {r : Record} {l : Law} {t : LineState} {one other : List ReceiveCall} {n i : ℕ} (u : Pair r l t one other n i) where
   abbrev ys : List Incoming
   ys = framesRead t one
 
@@ -91,7 +97,7 @@ module _ {r : Record} {l : Law} {t : LineState} {one other : List ReceiveCall} {
   many = framesAfter (K r) i
 
   inside : n + many < length ys
-  inside = omega (arith, u .read, ap length (Q .marks), length-map ys (λ y. mark r l (y .octets)))
+  inside = omega (arith, u .hit .read, ap length (Q .marks), length-map ys (λ y. mark r l (y .octets)))
 
   rate : (0 < r .drn) × (r .drn ≤ 28)
   unfolding framesRead ReceivesWith
@@ -118,16 +124,16 @@ module _ {r : Record} {l : Law} {t : LineState} {one other : List ReceiveCall} {
 
   plain-at : (j : ℕ) → Within (K r) i n j → Plain r l (getD ys j nothing)
   unfolding nth
-  plain-at j w =
-      let k : j < length ys = omega (arith, inside, w .1) in
+  plain-at j p =
+      let k : j < length ys = omega (arith, inside, p .1) in
       let m : mark r l (getD ys j nothing .octets) ≡ 0 =
       sym (ap (λ (ms : List ℕ). getD ms j 0) (Q .marks) ∙ getD-map (λ y. mark r l (y .octets)) ys nothing 0 j k)
-      ∙ u .good j (omega (arith, w .0), omega (arith, w .1)) in
+      ∙ u .hit .good j (omega (arith, p .0), omega (arith, p .1)) in
       record {
         good = ap (λ (x : ℕ). eqb x 0) m;
         off =
             sym (ap (λ (bs : List Bool). getD bs j false) (Q .choices) ∙ getD-map chosen ys nothing false j k)
-            ∙ u .off j (omega (arith, w .0), omega (arith, w .1));
+            ∙ u .hit .off j (omega (arith, p .0), omega (arith, p .1));
       }
 
   plain-y : Plain r l y
@@ -148,7 +154,7 @@ module _ {r : Record} {l : Law} {t : LineState} {one other : List ReceiveCall} {
       ∙ sized-at 6 (map six ys) (Q .sized) n (omega (arith, inside, length-map ys six))
 
   turned : Turned l (λ j. eqb j i) (y .octets) (z .octets)
-  turned = flip-turned l (y .octets) i (omega (arith, y-long, u .interval))
+  turned = flip-turned l (y .octets) i (omega (arith, y-long, u .hit .interval))
 
   -- the frames of the second list are those of the first with z for y
   octets-are : joined (map six ys′) ≡ joined (set (map six ys) n (z .octets))
@@ -157,13 +163,13 @@ module _ {r : Record} {l : Law} {t : LineState} {one other : List ReceiveCall} {
       let k : n < length (map six ys) = omega (arith, inside, length-map ys six) in
       let o : getD (map six ys) n [] ≡ y .octets = getD-map six ys nothing [] n (omega (arith, inside)) in
       let at : getD (joined (map six ys)) (n * 6 + i) 0 ≡ getD (y .octets) i 0 =
-      joined-at 6 (map six ys) (Q .sized) n k i (u .interval) 0 ∙ ap (λ (os : List ℕ). getD os i 0) o in
-      sym (Q′ .octets) ∙ u .flipped ∙ ap (λ (os : List ℕ). set os (n * 6 + i) (otherSign l (getD os (n * 6 + i) 0))) (Q .octets)
-      ∙ joined-set 6 (map six ys) (Q .sized) n k i (u .interval) (otherSign l (getD (joined (map six ys)) (n * 6 + i) 0))
+      joined-at 6 (map six ys) (Q .sized) n k i (u .hit .interval) 0 ∙ ap (λ (os : List ℕ). getD os i 0) o in
+      sym (Q′ .octets) ∙ u .hit .flipped ∙ ap (λ (os : List ℕ). set os (n * 6 + i) (otherSign l (getD os (n * 6 + i) 0))) (Q .octets)
+      ∙ joined-set 6 (map six ys) (Q .sized) n k i (u .hit .interval) (otherSign l (getD (joined (map six ys)) (n * 6 + i) 0))
       ∙ ap₂ (λ (os : List ℕ) (x : ℕ). joined (set (map six ys) n (set os i (otherSign l x)))) o at
 
   chosen-are : map chosen ys′ ≡ map chosen ys
-  chosen-are = sym (Q′ .choices) ∙ u .choices ∙ Q .choices
+  chosen-are = sym (Q′ .choices) ∙ u .hit .choices ∙ Q .choices
 
   as-many : length ys′ ≡ length ys
   as-many = sym (length-map ys′ chosen) ∙ ap length chosen-are ∙ length-map ys chosen
@@ -215,7 +221,7 @@ module _ {r : Record} {l : Law} {t : LineState} {one other : List ReceiveCall} {
   hi = omega (arith, rate .1)
 
   same-left : left r l s (z ∷ B) ≡ left r l s (y ∷ B)
-  same-left = left-hit r l lo hi i (u .interval) s y z B long-B plain-y plain-B turned (plain-y .off)
+  same-left = left-hit r l lo hi i (u .hit .interval) s y z B long-B plain-y plain-B turned (plain-y .off)
 
   out-is : handedOver t one ≡ a ++ (c ++ d)
   out-is = Q .bits ∙ ap (heard r l t) split ∙ heard-parts r l t A (y ∷ B) R
@@ -224,7 +230,7 @@ module _ {r : Record} {l : Law} {t : LineState} {one other : List ReceiveCall} {
   out-is′ =
       Q′ .bits ∙ ap (heard r l t) split′ ∙ heard-parts r l t A (z ∷ B) R
       ∙ ap₂ (λ (bs : List Bool) (v : LineState). a ++ (bs ++ heard r l v R))
-      (heard-hit r l lo hi i (u .interval) s y z B long-B plain-y plain-B turned (plain-y .off)
+      (heard-hit r l lo hi i (u .hit .interval) s y z B long-B plain-y plain-B turned (plain-y .off)
       ∙ ap (λ (m : ℕ). mix c (listFrom (changes (K r) i) 0 m)) (sym long-c)) same-left
 
   begin : length a ≡ begins r t (receiveChoices t one) n
@@ -238,7 +244,7 @@ module _ {r : Record} {l : Law} {t : LineState} {one other : List ReceiveCall} {
   places =
       ap₂ differing out-is out-is′
       ∙ differing-parts a c d (changes (K r) i) (nextSign (K r) i + 24) (omega (arith, long-c, all-within (K r) i))
-      (λ j h. late-none (K r) i j (u .interval) h)
+      (λ j h. late-none (K r) i j (u .hit .interval) h)
       ∙ ap (λ (b : ℕ). map (λ p. b + p) (listWhere (changes (K r) i) 0 (nextSign (K r) i + 24))) begin
 
   marks-same : marksGiven t other ≡ marksGiven t one
@@ -268,8 +274,9 @@ module _ {r : Record} {l : Law} {t : LineState} {one other : List ReceiveCall} {
       )
 
   many-are : length (differing (handedOver t one) (handedOver t other)) ≡ cost (K r) i
-  many-are = ap length places ∙ length-map (changedPlaces (K r) i) _ ∙ places-many (K r) i lo hi (u .interval)
+  many-are = ap length places ∙ length-map (changedPlaces (K r) i) _ ∙ places-many (K r) i lo hi (u .hit .interval)
 
 pub flip-costs : FlipCosts
-flip-costs r l t one other n i u =
+flip-costs r l t one other n i w w′ h =
+    let u : Pair r l t one other n i = record { receiver = w; receiver′ = w′; hit = h } in
     record { long = long u; many = many-are u; places = places u; marks = marks-same u; over = over u }

@@ -20,20 +20,18 @@ use Rattle.theorems.specs.Counts.{Good}
 abbrev pub Within : ℕ → ℕ → ℕ → ℕ → Type 0
 Within k i n j = (n ≤ j) × (j ≤ n + framesAfter k i)
 
--- two lists of receiver calls begun in one state, with one record and law and the same choices, each cut in any way and with refused calls
--- between: what the second reads is what the first reads but for the sign of one octet, in interval i of frame n
-pub record Hit (r : Record) (l : Law) (t : LineState) (one other : List ReceiveCall) (n i : ℕ) : Type 0 where
-  pub receiver : ReceivesWith r l t one
-  pub receiver′ : ReceivesWith r l t other
-  pub choices : receiveChoices t other ≡ receiveChoices t one
+-- of two runs, one that has the choices `on`, reads the octets os and gives these marks, and another that has on′ and reads os′: they differ
+-- in the sign of one octet, in interval i of frame n
+pub record Hit (r : Record) (l : Law) (n i : ℕ) (on on′ : List Bool) (os os′ marked : List ℕ) : Type 0 where
+  pub choices : on′ ≡ on
   pub interval : i < 6
   -- 'flip the sign of one octet', all others 'unaltered'
-  pub flipped : octetsRead t other ≡ flipAt l (n * 6 + i) (octetsRead t one)
+  pub flipped : os′ ≡ flipAt l (n * 6 + i) os
   -- 'in a good frame, with the next four frames read .. and good': those that have bits that change are enough, two at most (`FewFrames`)
-  pub read : n + framesAfter (K r) i < length (marksGiven t one)
-  pub good : (j : ℕ) → Within (K r) i n j → Good (marksGiven t one) j
+  pub read : n + framesAfter (K r) i < length marked
+  pub good : (j : ℕ) → Within (K r) i n j → Good marked j
   -- 'With no control channel' in those frames
-  pub off : (j : ℕ) → Within (K r) i n j → nth (receiveChoices t one) j ≡ false
+  pub off : (j : ℕ) → Within (K r) i n j → nth on j ≡ false
 
 -- the places at which two lists of bits differ
 unfoldable pub differing : List Bool → List Bool → List ℕ
@@ -54,10 +52,11 @@ pub record Costs (k i b : ℕ) (out out′ : List Bool) (marked marked′ : List
   -- and nothing of it is left
   pub over : left′ ≡ left
 
--- A.13
+-- A.13, of two lists of receiver calls begun in one state, each cut in any way and with refused calls between
 abbrev pub FlipCosts : Type 0
 FlipCosts =
-    (r : Record) (l : Law) (t : LineState) (one other : List ReceiveCall) (n i : ℕ) → Hit r l t one other n i
+    (r : Record) (l : Law) (t : LineState) (one other : List ReceiveCall) (n i : ℕ) → ReceivesWith r l t one → ReceivesWith r l t other
+    → Hit r l n i (receiveChoices t one) (receiveChoices t other) (octetsRead t one) (octetsRead t other) (marksGiven t one)
     → Costs (K r) i (begins r t (receiveChoices t one) n) (handedOver t one) (handedOver t other) (marksGiven t one) (marksGiven t other)
     (after receiveLeft t one) (after receiveLeft t other)
 
