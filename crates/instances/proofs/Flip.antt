@@ -1,5 +1,5 @@
 -- An instance of A.13's premises: five frames, the sign of interval 5 in frame 1 flipped, and the channel on in frame 0; and what comes of
--- it where the second frame after that is marked. Assumes nothing.
+-- it where the second frame after that one is marked. Assumes nothing.
 use mathlib.Core.Path.{_≡_, refl}
 use Prim.Native.Nat.{ℕ, zero, suc, _+_, _<_}
 use mathlib.Core.Bool.{Bool, true, false}
@@ -7,7 +7,7 @@ use mathlib.Core.List.{List, [], _∷_, _++_}
 use native.Mathlib.Omega.{arith}
 use lib.Dec.{lit<}
 use lib.ListN.{getD, take, drop, replicate}
-use Rattle.standard.specs.Lists.{listFrom, any, largest, listWhere, parts, joined, each, after}
+use Rattle.standard.specs.Lists.{listFrom, any, largest, listWhere, parts, joined, each, after, lastOr}
 use Rattle.standard.specs.First.{first}
 use Rattle.standard.specs.Bits.{bitAt, bitsIn, field, bytesOf, nth, numberOf, bitsOf}
 use Rattle.standard.specs.Record.{topIndex, inMask}
@@ -27,8 +27,8 @@ use Rattle.standard.specs.Calls.{ReceiveCall, receiveRefusal, receiveOctets, re
 use Rattle.standard.specs.declared.LineState.{LineState}
 use Rattle.standard.specs.declared.Law.the-variants.{Mu}
 use Rattle.theorems_cp.specs.Examples.{common, state}
-use Rattle.theorems.specs.Runs.{overCalls, AllCalls, octetsRead, handedOver, marksGiven, receiveChoices, ReceivesWith}
-use Rattle.theorems_flip.specs.Flip.{Within, Hit, differing}
+use Rattle.theorems.specs.Runs.{overCalls, AllCalls, octetsRead, handedOver, marksGiven, receiveChoices, ReceivesWith, begins}
+use Rattle.theorems_flip.specs.Flip.{Within, Hit, differing, Costs}
 use Rattle.theorems_flip.proofs.Flip.{flip-costs}
 
 abbrev call : Bool → ℕ → List ℕ → ReceiveCall
@@ -55,6 +55,14 @@ begun = state 77 true
 abbrev clear : List ℕ
 clear = line (0x7e ∷ 0x7e ∷ 0xfd ∷ 0xfd ∷ 0xff ∷ 0x7d ∷ [])
 
+-- and one that is marked
+abbrev marred : List ℕ
+marred = line (0x7e ∷ 0x80 ∷ 0xfd ∷ 0xfd ∷ 0xff ∷ 0x7d ∷ [])
+
+-- the places at which the bits handed over differ where the sign of interval 5 in frame 1 is flipped
+abbrev changed : List ℕ → List ℕ
+changed os = differing (handedOver begun (one os)) (handedOver begun (other (flipAt Mu 11 os)))
+
 reads : ReceivesWith common Mu begun (one clear) × ReceivesWith common Mu begun (other (flipAt Mu 11 clear))
 unfolding AllCalls ReceivesWith
 reads = (
@@ -62,24 +70,20 @@ reads = (
   (λ e. (refl, refl), (λ e. (refl, refl), (λ e. (refl, refl), tt))),
 )
 
-hit : Hit common Mu 1 5 (receiveChoices begun (one clear)) (receiveChoices begun (other (flipAt Mu 11 clear)))
+-- the premises; and six bits, of which the first is bit 5 after the 15 of frame 0, but five where the second frame after that one is marked:
+-- two good frames are needed
+pub computed : Hit common Mu 1 5 (receiveChoices begun (one clear)) (receiveChoices begun (other (flipAt Mu 11 clear)))
     (octetsRead begun (one clear)) (octetsRead begun (other (flipAt Mu 11 clear))) (marksGiven begun (one clear))
-unfolding listFrom any largest listWhere parts joined each after first bitAt bitsIn field bytesOf nth numberOf bitsOf topIndex inMask taps push
+    × (changed clear ≡ 20 ∷ 36 ∷ 38 ∷ 43 ∷ 54 ∷ 59 ∷ []) × (changed marred ≡ 20 ∷ 36 ∷ 38 ∷ 43 ∷ 54 ∷ [])
+unfolding listFrom any largest lastOr listWhere parts joined each after first bitAt bitsIn field bytesOf nth numberOf bitsOf topIndex inMask taps push
     pushAll descramble sizeOf labelOf member sizes product number signBits positiveOctet octet signOf ucodeOf dataBits receivedNumber
     outsideTest outsideTests markTests mark heardBits heardControl heardData receiveFrame sequenceSoFar lostSoFar doubtfulAfter receiveNext
-    incomingFrames receiveFrames receiveMarks receiveAfter otherSign flipAt framesAfter indexTooLarge drnTooLarge grantedBelowFullRate
+    incomingFrames receiveFrames receiveMarks receiveAfter otherSign flipAt changes changedPlaces framesAfter indexTooLarge drnTooLarge grantedBelowFullRate
     intervalEmpty productTooSmall maskAboveIndices framesAtCleardown historyTooLarge doubtfulTooLarge placeTooLarge tooManyFrames emptyTest
     emptyTests rateTests recordTests stateTests lineTests bufferTests frameTests receiveRefusal receiveOctets receiveLeft receiveBytes
-    receiveMarked overCalls AllCalls octetsRead handedOver marksGiven receiveChoices ReceivesWith differing
-hit =
-    record {
-      choices = refl;
-      interval = lit< tt;
-      flipped = refl;
-      read = lit< tt;
-      good = marked;
-      off = chosen;
-    }
+    receiveMarked overCalls octetsRead handedOver marksGiven receiveChoices differing
+computed =
+    (record { choices = refl; interval = lit< tt; flipped = refl; read = lit< tt; good = marked; off = chosen }, refl, refl)
   where
     marked : (j : ℕ) → Within 15 5 1 j → getD (marksGiven begun (one clear)) j 0 ≡ 0
     marked zero w = absurd (omega (arith, w .0))
@@ -95,32 +99,11 @@ hit =
     chosen (suc (suc (suc zero))) w = refl
     chosen (suc (suc (suc (suc j)))) w = absurd (omega (arith, w .1))
 
--- and what it concludes: six bits, of which the first is bit 5 after the 15 of frame 0
-pub instance-flipped : differing (handedOver begun (one clear)) (handedOver begun (other (flipAt Mu 11 clear)))
-    ≡ 20 ∷ 36 ∷ 38 ∷ 43 ∷ 54 ∷ 59 ∷ []
-unfolding listFrom any largest listWhere parts joined each after first bitAt bitsIn field bytesOf nth numberOf bitsOf topIndex inMask taps push
-    pushAll descramble sizeOf labelOf member sizes product number signBits positiveOctet octet signOf ucodeOf dataBits receivedNumber
-    outsideTest outsideTests markTests mark heardBits heardControl heardData receiveFrame sequenceSoFar lostSoFar doubtfulAfter receiveNext
-    incomingFrames receiveFrames receiveMarks receiveAfter otherSign flipAt framesAfter indexTooLarge drnTooLarge grantedBelowFullRate
-    intervalEmpty productTooSmall maskAboveIndices framesAtCleardown historyTooLarge doubtfulTooLarge placeTooLarge tooManyFrames emptyTest
-    emptyTests rateTests recordTests stateTests lineTests bufferTests frameTests receiveRefusal receiveOctets receiveLeft receiveBytes
-    receiveMarked overCalls AllCalls octetsRead marksGiven receiveChoices ReceivesWith changes changedPlaces
-instance-flipped = flip-costs common Mu begun (one clear) (other (flipAt Mu 11 clear)) 1 5 (reads .0) (reads .1) hit .places
-
--- with its second frame after that marked five bits change: two good frames are needed
-abbrev marred : List ℕ
-marred = line (0x7e ∷ 0x80 ∷ 0xfd ∷ 0xfd ∷ 0xff ∷ 0x7d ∷ [])
-
-pub two-needed : differing (handedOver begun (one marred)) (handedOver begun (other (flipAt Mu 11 marred)))
-    ≡ 20 ∷ 36 ∷ 38 ∷ 43 ∷ 54 ∷ []
-unfolding listFrom any largest listWhere parts joined each after first bitAt bitsIn field bytesOf nth numberOf bitsOf topIndex inMask taps push
-    pushAll descramble sizeOf labelOf member sizes product number signBits positiveOctet octet signOf ucodeOf dataBits receivedNumber
-    outsideTest outsideTests markTests mark heardBits heardControl heardData receiveFrame sequenceSoFar lostSoFar doubtfulAfter receiveNext
-    incomingFrames receiveFrames receiveMarks receiveAfter otherSign flipAt framesAfter indexTooLarge drnTooLarge grantedBelowFullRate
-    intervalEmpty productTooSmall maskAboveIndices framesAtCleardown historyTooLarge doubtfulTooLarge placeTooLarge tooManyFrames emptyTest
-    emptyTests rateTests recordTests stateTests lineTests bufferTests frameTests receiveRefusal receiveOctets receiveLeft receiveBytes
-    receiveMarked overCalls AllCalls octetsRead handedOver marksGiven receiveChoices ReceivesWith differing
-two-needed = refl
+-- and what the theorem concludes
+pub instance-flipped : Costs 15 5 (begins common begun (receiveChoices begun (one clear)) 1) (handedOver begun (one clear))
+    (handedOver begun (other (flipAt Mu 11 clear))) (marksGiven begun (one clear)) (marksGiven begun (other (flipAt Mu 11 clear)))
+    (after receiveLeft begun (one clear)) (after receiveLeft begun (other (flipAt Mu 11 clear)))
+instance-flipped = flip-costs common Mu begun (one clear) (other (flipAt Mu 11 clear)) 1 5 (reads .0) (reads .1) (computed .0)
 
 -- where four bits change: the second sign bit is 18 or 23 places after the first
 pub places-17 : changedPlaces 17 5 ≡ 5 ∷ 28 ∷ 41 ∷ 46 ∷ []

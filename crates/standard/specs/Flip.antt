@@ -4,7 +4,7 @@ use mathlib.Core.Bool.{Bool, not, cond, _||_}
 use mathlib.Core.List.{List}
 use lib.Dec.{eqb}
 use lib.ListN.{getD, set}
-use Rattle.standard.specs.Lists.{listWhere}
+use Rattle.standard.specs.Lists.{listWhere, lastOr}
 use Rattle.standard.specs.Bits.{_⊕_}
 use Rattle.standard.specs.Octets.{octet, signOf, ucodeOf}
 use Rattle.standard.specs.declared.Law.{Law}
@@ -39,4 +39,4 @@ changedPlaces k i = listWhere (changes k i) 0 (nextSign k i + 24)
 
 -- the last of them is so many frames after the one with that sign
 unfoldable pub framesAfter : ℕ → ℕ → ℕ
-framesAfter k i = (nextSign k i + 23) / (k + 6)
+framesAfter k i = lastOr 0 (changedPlaces k i) / (k + 6)

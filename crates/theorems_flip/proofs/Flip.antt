@@ -243,7 +243,7 @@ module _ {r : Record} {l : Law} {t : LineState} {one other : List ReceiveCall} {
   unfolding changedPlaces
   places =
       ap₂ differing out-is out-is′
-      ∙ differing-parts a c d (changes (K r) i) (nextSign (K r) i + 24) (omega (arith, long-c, all-within (K r) i))
+      ∙ differing-parts a c d (changes (K r) i) (nextSign (K r) i + 24) (omega (arith, long-c, all-within (K r) i lo hi (u .hit .interval)))
       (λ j h. late-none (K r) i j (u .hit .interval) h)
       ∙ ap (λ (b : ℕ). map (λ p. b + p) (listWhere (changes (K r) i) 0 (nextSign (K r) i + 24))) begin
 

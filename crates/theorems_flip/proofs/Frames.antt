@@ -56,7 +56,7 @@ length-lineErrors k x u =
       length-replicate k false,
     )
 
-pub length-bitErrors : (k : ℕ) (x : Errors) (u : ℕ → Bool) → length (bitErrors k x u) ≡ k + 6
+length-bitErrors : (k : ℕ) (x : Errors) (u : ℕ → Bool) → length (bitErrors k x u) ≡ k + 6
 length-bitErrors k x u = length-descramble (x .history) (lineErrors k x u) ∙ length-lineErrors k x u
 
 -- ---- one frame
@@ -69,7 +69,7 @@ pub record Turned (l : Law) (u : ℕ → Bool) (os os′ : List ℕ) : Type 0 wh
 abbrev pub noSign : ℕ → Bool
 noSign j = false
 
-pub turned-none : (l : Law) (os : List ℕ) → Turned l noSign os os
+turned-none : (l : Law) (os : List ℕ) → Turned l noSign os os
 turned-none l os = record { ucodes = λ j h. refl; signs = λ j h. sym (xor-false (signAt os j)) }
 
 module _ (r : Record) (l : Law) {u : ℕ → Bool} {os os′ : List ℕ} (t : Turned l u os os′) where
@@ -88,7 +88,7 @@ module _ (r : Record) (l : Law) {u : ℕ → Bool} {os os′ : List ℕ} (t : Tu
       (λ j h. ap (λ (x : ℕ). test (j + 1) (not (member r j x))) (t .ucodes j h)))
       number-same
 
-  pub good-same : good r l os′ ≡ good r l os
+  good-same : good r l os′ ≡ good r l os
   good-same = ap (λ (n : ℕ). eqb n 0) mark-same
 
   signs-mixed : listFrom (signAt os′) 0 6 ≡ mix (listFrom (signAt os) 0 6) (listFrom u 0 6)
@@ -140,7 +140,7 @@ module _ (r : Record) (l : Law) where
     long =
         ap length (data-off s y (p .off)) ∙ length-heardBits r l (s .sign) (y .octets) ∙ sym (length-lineErrors (K r) x u)
 
-    pub frame-mixed : receiveFrame r l s′ y′ ≡ mix (receiveFrame r l s y) (bitErrors (K r) x u)
+    frame-mixed : receiveFrame r l s′ y′ ≡ mix (receiveFrame r l s y) (bitErrors (K r) x u)
     unfolding receiveFrame
     frame-mixed =
         rw (good-same r l t, p .good, data-mixed)

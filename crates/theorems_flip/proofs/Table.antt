@@ -8,7 +8,7 @@ use native.Mathlib.Omega.{arith}
 use borrow.Author.Tests.{ne-eqb}
 use lib.Dec.{T, eqb, eqb→eq}
 use lib.ListN.{length, replicate}
-use Rattle.standard.specs.Lists.{listFrom, listWhere, joined, each, after}
+use Rattle.standard.specs.Lists.{listFrom, listWhere, lastOr, joined, each, after}
 use Rattle.standard.specs.Bits.{_⊕_}
 use Rattle.standard.specs.Scrambler.{taps, push, pushAll, descramble}
 use Rattle.standard.specs.Signs.{signBits}
@@ -49,12 +49,15 @@ same→eq (x ∷ xs) (y ∷ ys) t =
 abbrev leftNone : ℕ → ℕ → Bool
 leftNone k i = eqb (errorsLeft k i .history) 0 && Bool·beq (errorsLeft k i .sign) false
 
+abbrev counted : ℕ → ℕ → Bool
+counted k i = eqb (length (changedPlaces k i)) (cost k i) && eqb (lastOr 0 (changedPlaces k i)) (nextSign k i + 23)
+
 abbrev row : ℕ → ℕ → Bool
-row k i = sameBits (errorsIn k i) (expected k i) && (leftNone k i && eqb (length (changedPlaces k i)) (cost k i))
+row k i = sameBits (errorsIn k i) (expected k i) && (leftNone k i && counted k i)
 
 -- K from 15 to 42, and each interval
 table : T (every (λ n. every (row (15 + n)) 6) 28)
-unfolding listFrom listWhere joined each after taps push pushAll descramble signBits changes changedPlaces framesAfter
+unfolding listFrom listWhere lastOr joined each after taps push pushAll descramble signBits changes changedPlaces framesAfter
 table = tt
 
 module _ (k i : ℕ) (lo : 15 ≤ k) (hi : k ≤ 42) (h : i < 6) where
@@ -77,11 +80,16 @@ module _ (k i : ℕ) (lo : 15 ≤ k) (hi : k ≤ 42) (h : i < 6) where
       (eqb→eq (errorsLeft k i .history) 0 (and-left (eqb (errorsLeft k i .history) 0) _ at-left))
       (beq→eq (errorsLeft k i .sign) false (and-right (eqb (errorsLeft k i .history) 0) _ at-left))
 
+  at-counted : T (counted k i)
+  at-counted = and-right (leftNone k i) _ (and-right (sameBits (errorsIn k i) (expected k i)) _ at-row)
+
   -- 'Exactly six', or four
   pub places-many : length (changedPlaces k i) ≡ cost k i
-  places-many =
-      eqb→eq (length (changedPlaces k i)) (cost k i)
-      (and-right (leftNone k i) _ (and-right (sameBits (errorsIn k i) (expected k i)) _ at-row))
+  places-many = eqb→eq (length (changedPlaces k i)) (cost k i) (and-left (eqb (length (changedPlaces k i)) (cost k i)) _ at-counted)
+
+  last-place : lastOr 0 (changedPlaces k i) ≡ nextSign k i + 23
+  last-place =
+      eqb→eq (lastOr 0 (changedPlaces k i)) (nextSign k i + 23) (and-right (eqb (length (changedPlaces k i)) (cost k i)) _ at-counted)
 
 -- ---- how far they come
 
@@ -92,7 +100,7 @@ next-le k i lo h = go (eqb i 5)
     go true = omega arith
     go false = omega arith
 
-pub own-le : (k i : ℕ) → i < 6 → i ≤ nextSign k i
+own-le : (k i : ℕ) → i < 6 → i ≤ nextSign k i
 own-le k i h = go (eqb i 5)
   where
     go : (b : Bool) → i ≤ cond b (k + 6) (i + 1)
@@ -101,19 +109,19 @@ own-le k i h = go (eqb i 5)
 
 pub few-frames : FewFrames
 unfolding framesAfter
-few-frames k i lo h =
+few-frames k i lo hi h =
     let p : 0 < k + 6 = omega arith in
     let q : (nextSign k i + 23) / (k + 6) < 3 = div-lt-iff-lt-mul p .1 (next-le k i lo h) in
-    omega arith
+    rw (last-place k i lo hi h) (omega arith)
 
 -- within the frames that are looked at
-pub all-within : (k i : ℕ) → nextSign k i + 24 ≤ (framesAfter k i + 1) * (k + 6)
+pub all-within : (k i : ℕ) → 15 ≤ k → k ≤ 42 → i < 6 → nextSign k i + 24 ≤ (framesAfter k i + 1) * (k + 6)
 unfolding framesAfter
-all-within k i =
+all-within k i lo hi h =
     let p : 0 < k + 6 = omega arith in
     let q : (nextSign k i + 23) / (k + 6) < (nextSign k i + 23) / (k + 6) + 1 = omega arith in
     let z : nextSign k i + 23 < ((nextSign k i + 23) / (k + 6) + 1) * (k + 6) = div-lt-iff-lt-mul p .0 q in
-    omega arith
+    rw (last-place k i lo hi h) (omega arith)
 
 -- none is later
 pub late-none : (k i p : ℕ) → i < 6 → nextSign k i + 24 ≤ p → changes k i p ≡ false

@@ -62,4 +62,4 @@ FlipCosts =
 
 -- of 'the next four frames' no more than two have bits that change
 abbrev pub FewFrames : Type 0
-FewFrames = (k i : ℕ) → 15 ≤ k → i < 6 → framesAfter k i ≤ 2
+FewFrames = (k i : ℕ) → 15 ≤ k → k ≤ 42 → i < 6 → framesAfter k i ≤ 2
