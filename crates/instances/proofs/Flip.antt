@@ -75,13 +75,13 @@ reads = (
 pub computed : Hit common Mu 1 5 (receiveChoices begun (one clear)) (receiveChoices begun (other (flipAt Mu 11 clear)))
     (octetsRead begun (one clear)) (octetsRead begun (other (flipAt Mu 11 clear))) (marksGiven begun (one clear))
     × (changed clear ≡ 20 ∷ 36 ∷ 38 ∷ 43 ∷ 54 ∷ 59 ∷ []) × (changed marred ≡ 20 ∷ 36 ∷ 38 ∷ 43 ∷ 54 ∷ [])
-unfolding listFrom any largest lastOr listWhere parts joined each after first bitAt bitsIn field bytesOf nth numberOf bitsOf topIndex inMask taps push
-    pushAll descramble sizeOf labelOf member sizes product number signBits positiveOctet octet signOf ucodeOf dataBits receivedNumber
-    outsideTest outsideTests markTests mark heardBits heardControl heardData receiveFrame sequenceSoFar lostSoFar doubtfulAfter receiveNext
-    incomingFrames receiveFrames receiveMarks receiveAfter otherSign flipAt changes changedPlaces framesAfter indexTooLarge drnTooLarge grantedBelowFullRate
-    intervalEmpty productTooSmall maskAboveIndices framesAtCleardown historyTooLarge doubtfulTooLarge placeTooLarge tooManyFrames emptyTest
-    emptyTests rateTests recordTests stateTests lineTests bufferTests frameTests receiveRefusal receiveOctets receiveLeft receiveBytes
-    receiveMarked overCalls octetsRead handedOver marksGiven receiveChoices differing
+unfolding listFrom any largest lastOr listWhere parts joined each after first bitAt bitsIn field bytesOf nth numberOf bitsOf topIndex inMask
+    taps push pushAll descramble sizeOf labelOf member sizes product number signBits positiveOctet octet signOf ucodeOf dataBits
+    receivedNumber outsideTest outsideTests markTests mark heardBits heardControl heardData receiveFrame sequenceSoFar lostSoFar
+    doubtfulAfter receiveNext incomingFrames receiveFrames receiveMarks receiveAfter otherSign flipAt changes changedPlaces framesAfter
+    indexTooLarge drnTooLarge grantedBelowFullRate intervalEmpty productTooSmall maskAboveIndices framesAtCleardown historyTooLarge
+    doubtfulTooLarge placeTooLarge tooManyFrames emptyTest emptyTests rateTests recordTests stateTests lineTests bufferTests frameTests
+    receiveRefusal receiveOctets receiveLeft receiveBytes receiveMarked overCalls octetsRead handedOver marksGiven receiveChoices differing
 computed =
     (record { choices = refl; interval = lit< tt; flipped = refl; read = lit< tt; good = marked; off = chosen }, refl, refl)
   where

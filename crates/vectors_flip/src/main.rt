@@ -109,7 +109,7 @@ fn put_changes(k: usize, i: u8, reply: &mut [u8]) -> usize
     put_places(reply, at, k as u32, i as u32)
 }
 
-// The same with the sign of the octet at place `hit` flipped.
+// Receives with the sign of the octet at place `hit` flipped, and puts the answer.
 fn put_flipped(call: &mut [u8], hit: usize, marks: &mut [u8], reply: &mut [u8])
     requires { ⌜ (130 ≤ length (now call)) × (hit < length (now call)) × (length (now marks) ≤ 256) ⌝ }
 {
@@ -117,7 +117,7 @@ fn put_flipped(call: &mut [u8], hit: usize, marks: &mut [u8], reply: &mut [u8])
     put_run(call, marks, reply);
 }
 
-// Puts the answers of both.
+// Receives as the octets are and with that sign flipped, and puts both answers.
 fn put_both(call: &mut [u8], hit: usize, marks: &mut [u8], reply: &mut [u8])
     requires { ⌜ (130 ≤ length (now call)) × (hit < length (now call)) × (length (now marks) ≤ 256) ⌝ }
 {
@@ -126,7 +126,7 @@ fn put_both(call: &mut [u8], hit: usize, marks: &mut [u8], reply: &mut [u8])
     put_flipped(call, hit, marks, &mut reply[run..]);
 }
 
-// Answers a call of so many frames, by way of `marks`; nothing where there is no room.
+// Answers a call that has a frame for each mark, by way of `marks`; nothing where there is no room.
 fn answer_hit(call: &mut [u8], hit: usize, marks: &mut [u8], reply: &mut [u8]) -> usize
     requires { ⌜ (130 ≤ length (now call)) × (hit < length (now call)) × (length (now marks) ≤ 256) ⌝ }
     ensures { λ n. ⌜ n ≤ length (now (reply .entry)) ⌝ }
