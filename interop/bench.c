@@ -1,4 +1,5 @@
-/* How many frames, octets, CPs, states or plans a second the proved codec and the plain one manage, and the ratio of the two.
+/* How many frames, octets, CPs, states, plans or settings a second the proved codec and the plain one manage, and the
+   ratio of the two.
    Both run in this one process on buffers written before. A round times one codec and then the other, the first
    of them in turn; the first rounds warm up and do not count. Each figure is the median of the rounds that do, and
    beside the ratio stand its quartiles. Seconds are those of the processor, so that other programs disturb little. */
@@ -12,7 +13,7 @@
 #include <time.h>
 
 enum { PLAIN, PROVED, CODECS, WARM_UP = 3, ROUNDS = 41, CP_BYTES = 122, OCTETS = 6 * V91_FRAMES };
-enum { PLAN_K = 24, PLAN_SPACING = 600 };
+enum { PLAN_K = 24, PLAN_SPACING = 600, SETTINGS = 2 * V91_JUNCTIONS };
 
 static const struct codec {
     uint32_t (*send)(const uint8_t *, size_t, bool, size_t, bool, uint64_t, const uint8_t *, size_t,
@@ -26,19 +27,23 @@ static const struct codec {
     uint32_t (*send_cp)(const uint8_t *, size_t, bool, uint8_t *, size_t, uint8_t *, size_t);
     uint32_t (*find_state)(const uint8_t *, size_t, uint8_t *, size_t);
     uint32_t (*plan)(uint32_t, bool, uint32_t, uint64_t, uint8_t *, size_t);
+    uint32_t (*put)(const uint8_t *, size_t, uint16_t, const uint8_t *, size_t, uint8_t *, size_t);
+    uint32_t (*go_back)(const uint8_t *, size_t, uint16_t, uint8_t *, size_t);
+    uint32_t (*look_up)(const uint8_t *, size_t, uint16_t, uint8_t *, size_t);
 } codecs[CODECS] = {
     { plain_send, plain_receive, plain_linear, plain_read_cp, plain_write_cp, plain_send_dil, plain_send_cp, plain_find_state,
-      plain_plan },
-    { v91_send, v91_receive, v91_linear, v91_read_cp, v91_write_cp, v91_send_dil, v91_send_cp, v91_find_state, v91_plan },
+      plain_plan, plain_put, plain_go_back, plain_look_up },
+    { v91_send, v91_receive, v91_linear, v91_read_cp, v91_write_cp, v91_send_dil, v91_send_cp, v91_find_state,
+      v91_plan, v91_put, v91_go_back, v91_look_up },
 };
 
 /* What the calls read, and what each codec writes. */
-static uint8_t record[V91_RECORD_BYTES], bits[OCTETS], line[OCTETS], cp[CP_BYTES];
-static size_t count, bits_len, cp_bits;
+static uint8_t record[V91_RECORD_BYTES], bits[OCTETS], line[OCTETS], cp[CP_BYTES], file[V91_FILE_BYTES];
+static size_t count, bits_len, cp_bits, file_len;
 static bool control;
 static struct written {
     uint8_t octets[OCTETS], bits[OCTETS], marks[V91_FRAMES], heard[V91_HEARD_BYTES], state[V91_STATE_BYTES];
-    uint8_t record[V91_RECORD_BYTES], cp[CP_BYTES], plan[V91_PLAN_BYTES];
+    uint8_t record[V91_RECORD_BYTES], cp[CP_BYTES], plan[V91_PLAN_BYTES], file[V91_FILE_BYTES];
     int32_t samples[OCTETS];
 } written[CODECS];
 
@@ -88,6 +93,32 @@ static uint32_t find_state_call(const struct codec *codec, struct written *to)
 static uint32_t plan_call(const struct codec *codec, struct written *to)
 {
     return codec->plan(PLAN_K, false, PLAN_SPACING, UINT64_MAX, to->plan, sizeof to->plan);
+}
+
+/* A junction of the file, and the one in the middle of it. */
+static uint16_t junction(unsigned n)
+{
+    return (uint16_t)(300 + 7 * n);
+}
+
+static uint16_t middle(void)
+{
+    return junction(V91_JUNCTIONS / 2);
+}
+
+static uint32_t put_call(const struct codec *codec, struct written *to)
+{
+    return codec->put(file, file_len, middle(), record, sizeof record, to->file, sizeof to->file) - (uint32_t)file_len;
+}
+
+static uint32_t go_back_call(const struct codec *codec, struct written *to)
+{
+    return codec->go_back(file, file_len, middle(), to->file, sizeof to->file) - (uint32_t)file_len;
+}
+
+static uint32_t look_up_call(const struct codec *codec, struct written *to)
+{
+    return codec->look_up(file, file_len, middle(), to->record, sizeof to->record);
 }
 
 static double now(void)
@@ -162,6 +193,21 @@ static void make_masks(unsigned g)
     cp_bits = plain_write_cp(record, sizeof record, cp, sizeof cp);
 }
 
+/* A full settings file: the record, with either acknowledge bit, as both settings of each junction. */
+static void make_file(void)
+{
+    static const uint8_t empty[] = V91_EMPTY_FILE;
+    static uint8_t made[V91_FILE_BYTES];
+
+    memcpy(file, empty, sizeof empty);
+    file_len = sizeof empty;
+    for (unsigned n = 0; n < SETTINGS; n++) {
+        record[V91_RECORD_ACKNOWLEDGE] = (uint8_t)(n % 2);
+        file_len = plain_put(file, file_len, junction(n / 2), record, sizeof record, made, sizeof made);
+        memcpy(file, made, file_len);
+    }
+}
+
 /* A record at K, and 1,024 frames that the plain codec sends under it. */
 static void make_line(unsigned k)
 {
@@ -207,7 +253,7 @@ int main(void)
     for (size_t i = 0; i < sizeof bits; i++)
         bits[i] = (uint8_t)(i * 2654435761u >> 13);
     printf("entry    K, g  count    plain/s   proved/s   ratio  quartiles"
-           "   (millions; frames, octets, CPs, states or plans)\n");
+           "   (millions; frames, octets, CPs, states, plans or settings in the file)\n");
     frames("send", send_call);
     frames("receive", receive_call);
     frames_on("send, on", send_call);
@@ -225,5 +271,12 @@ int main(void)
     measure("find", 0, 1, find_state_call, 1000);
     measure("send_dil", 0, V91_DIL_OCTETS, dil_call, 1000);
     measure("plan", PLAN_K, 1, plan_call, 1000);
+    for (unsigned g = 0; g < 6; g += 5) {
+        make_masks(g);
+        make_file();
+        measure("put", g, SETTINGS, put_call, 100);
+        measure("go_back", g, SETTINGS, go_back_call, 100);
+        measure("look_up", g, SETTINGS, look_up_call, 100);
+    }
     return 0;
 }

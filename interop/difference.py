@@ -7,7 +7,8 @@ the answer and every byte of every buffer afterwards, with canary bytes before a
 runs of calls the codec's own bytes are held against what the count of doubtful bits promises, in others
 a sequence of the control channel goes through calls of any lengths, in others CP and E_s go before the
 data and the receiver begins in the line state found from them, in others one line is received twice, the
-second time with one sign flipped. The test stops at the first difference
+second time with one sign flipped, in others each call has the settings file that the call before it left, and
+look-ups are held against what was put and gone back to. The test stops at the first difference
 with a line that shows the call; --show prints every call before it is made. The exit status is 0 if all
 was the same and every refusal, interval, mark, count and place that a state can hand in, all that can be
 heard, and each K and interval with a flipped sign came up, else 1.
@@ -19,6 +20,7 @@ import struct
 import sys
 import time
 from collections import Counter
+from functools import lru_cache
 from itertools import combinations
 from pathlib import Path
 
@@ -27,6 +29,7 @@ sys.path.insert(0, str(Path(__file__).resolve().parent.parent / "reference"))
 
 import cases_cp
 import cases_frames
+import cases_settings
 import cases_start
 import control
 import cp
@@ -37,6 +40,7 @@ import frames
 import linear
 import plan
 import record
+import settings
 import start as starts
 from samples import (Draw, a_number, a_record, a_sequence_place, a_sparse_record, a_state, empty_by_own,
                      faulty_record, with_places)
@@ -46,6 +50,10 @@ DOUBTFUL, FRAME_PLACE, SEQUENCE_PLACE = 5, 6, 7  # bytes of a state; history and
 IN_STATE = {"counts of doubtful bits": DOUBTFUL, "frame places": FRAME_PLACE, "sequence places": SEQUENCE_PLACE}
 TOLD = ("nothing", "a sequence", "a frame lost", "the pattern wrong", "the CRC wrong")
 DIL_OCTETS = dil.length(dil.TABLE_5)
+MOST_ROOM = 20_000  # the most bytes lent for a settings file, which has 10,244 at most
+LEAST_COUNT = 47  # the least answer that is a count: the length of a file with one setting
+
+settings.cp_reading = lru_cache(maxsize=1 << 12)(settings.cp_reading)  # a file has up to 80 CPs, read in each call
 
 # The parameters of each entry; all but a_law and the numbers are buffers: a pointer and a length.
 ENTRIES = {
@@ -58,10 +66,15 @@ ENTRIES = {
     "find_state": ("octets", "state"),
     "send_dil": ("a_law", "octets"),
     "plan": ("k", "a_law", "spacing", "ceiling", "plan"),
+    "put": ("file", "junction", "record", "out"),
+    "go_back": ("file", "junction", "out"),
+    "look_up": ("file", "junction", "record"),
 }
-KINDS = list(ENTRIES)  # the first seven in the order of forms.py, which has no cases of the others
+KINDS = {forms.READ_CP: "read_cp", forms.WRITE_CP: "write_cp", forms.SEND: "send", forms.RECEIVE: "receive",
+         forms.LINEAR: "linear", forms.SEND_CP: "send_cp", forms.FIND_STATE: "find_state",
+         forms.PUT: "put", forms.BACK: "go_back", forms.LOOK_UP: "look_up"}  # of the cases of forms.py
 NUMBERS = {"a_law": ctypes.c_bool, "frames": ctypes.c_size_t, "bit_count": ctypes.c_size_t,
-           "control": ctypes.c_bool, "sequence": ctypes.c_uint64,
+           "control": ctypes.c_bool, "sequence": ctypes.c_uint64, "junction": ctypes.c_uint16,
            "k": ctypes.c_uint32, "spacing": ctypes.c_uint32, "ceiling": ctypes.c_uint64}
 
 REFUSALS = {
@@ -74,6 +87,9 @@ REFUSALS = {
     "find_state": {16},
     "send_dil": {17},
     "plan": {17, 26, 27, 28},
+    "put": {4, *range(9, 13), 16, 17, 22, 24, 25},
+    "go_back": {17, 22, 23},
+    "look_up": {17, 22, 23},
 }
 PAIRS = {
     "read_cp": cases_cp.pairs(cases_cp.READER_NUMBERS),
@@ -85,6 +101,9 @@ PAIRS = {
     "find_state": [],
     "send_dil": [],
     "plan": [(26, 27), (26, 28), (26, 17), (27, 17), (28, 17)],
+    "put": cases_cp.pairs(cases_settings.PUT_NUMBERS),
+    "go_back": list(combinations(cases_settings.BACK_NUMBERS, 2)),
+    "look_up": list(combinations((*cases_settings.LOOK_NUMBERS, 17), 2)),
 }
 FAULTY = {  # how the reference makes a case in which given refusals hold, and which it can
     "read_cp": (cases_cp.faulty_sequence, cases_cp.READER_NUMBERS),
@@ -92,6 +111,8 @@ FAULTY = {  # how the reference makes a case in which given refusals hold, and w
     "send": (cases_frames.faulty_send, cases_frames.NUMBERS),
     "receive": (cases_frames.faulty_receive, cases_frames.NUMBERS),
     "send_cp": (cases_start.faulty_sending, cases_start.NUMBERS),
+    "put": (cases_settings.faulty_put, cases_settings.PUT_NUMBERS),
+    "go_back": (cases_settings.faulty_back, cases_settings.BACK_NUMBERS),
 }
 CHANNEL_GROUPS = (
     cases_frames.every_place, cases_frames.places_alone, cases_frames.place_faults,
@@ -103,6 +124,13 @@ START_GROUPS = (
     cases_start.bounds, cases_start.faulty_cases, cases_start.sparse_records, cases_start.cp_after_cp,
     cases_start.counts_of_octets, cases_start.each_bit_found, cases_start.any_octets, cases_start.octets_sent,
     cases_start.states_beyond)
+SETTINGS_GROUPS = (
+    cases_settings.short_files, cases_settings.rules_broken, cases_settings.cps_refused,
+    cases_settings.cps_of_other_lengths, cases_settings.cut_files, cases_settings.lengthened_files,
+    cases_settings.random_files, cases_settings.flips, cases_settings.without_entries, cases_settings.each_length,
+    cases_settings.several_rates, cases_settings.junction_numbers, cases_settings.places_of_puts,
+    cases_settings.alike_settings, cases_settings.buffers, cases_settings.near_the_most,
+    cases_settings.many_entries)
 EACH_HIT = [(k, interval) for k in range(15, 43) for interval in range(6)]
 ENOUGH = 50_000  # from so many calls on, all of these have to come up
 
@@ -115,11 +143,8 @@ def answer_to(refusal):
 
 
 def is_done(answer):
-    """Whether a call was done: 0, a bit count, 294 to 972, or octets: of CP and E_s, 306 to 984, or of the DIL.
-
-    25 with an interval is beyond 2^24.
-    """
-    return answer == 0 or 294 <= answer <= 984 or answer == DIL_OCTETS
+    """Whether a call was done: 0 or a count of bits, octets or bytes. 25 with an interval is beyond 2^24."""
+    return answer == 0 or LEAST_COUNT <= answer < 1 << 24
 
 
 def said(answer):
@@ -227,9 +252,31 @@ def want_plan(k, a_law, spacing, ceiling, buffer):
     return 0, {"plan": struct.pack("<QQQ", mask % 2**64, mask >> 64, total) + buffer[PLAN_BYTES:]}
 
 
+def want_put(file, junction, form, out):
+    if len(form) < RECORD_BYTES:
+        return 16, {}
+    refusal, length, after = settings.put(file, junction, record_from(form), out)
+    return answer_to(refusal) or length, {"out": after}
+
+
+def want_go_back(file, junction, out):
+    refusal, length, after = settings.go_back(file, junction, out)
+    return answer_to(refusal) or length, {"out": after}
+
+
+def want_look_up(file, junction, form):
+    refusal, rec = settings.look_up(file, junction)
+    if refusal:
+        return answer_to(refusal), {}
+    if len(form) < RECORD_BYTES:
+        return 17, {}
+    return 0, {"record": record.pack(rec) + form[RECORD_BYTES:]}
+
+
 WANT = {"read_cp": want_read_cp, "write_cp": want_write_cp, "send": want_send,
         "receive": want_receive, "linear": want_linear, "send_cp": want_send_cp, "find_state": want_find_state,
-        "send_dil": want_send_dil, "plan": want_plan}
+        "send_dil": want_send_dil, "plan": want_plan,
+        "put": want_put, "go_back": want_go_back, "look_up": want_look_up}
 
 
 # The codec under test
@@ -319,12 +366,13 @@ class Test:
         self.codec, self.draw, self.calls, self.show = codec, Draw(seed), calls, show
         self.made = 0
         self.counts = {entry: Counter() for entry in ENTRIES}
-        self.intervals = {entry: Counter() for entry in FAULTY}
+        self.intervals = {entry: Counter() for entry in FAULTY if 25 in REFUSALS[entry]}
         self.marks, self.told, self.short_heard = Counter(), Counter(), 0
         self.handed_in = {entry: {what: set() for what in IN_STATE}
                           for entry in ("send", "receive", "send_cp", "find_state")}
         self.promised, self.sequences, self.openings = Counter(), Counter(), Counter()
         self.hits, self.next_hit = Counter(), 0
+        self.settled, self.drawn, self.long_drawn = Counter(), [], []
         self.next_count = self.next_start_count = 0
         self.held = {entry: set() for entry in ENTRIES}
         self.sets = [(entry, {number}) for entry in FAULTY for number in FAULTY[entry][1]]
@@ -457,6 +505,24 @@ class Test:
         answer, after = self.call("find_state", octets, self.state(state))
         return state if answer else state_from(after["state"])
 
+    def put(self, file, junction, rec):
+        """(Whether it is done, the file left)."""
+        needed = min(cases_settings.room_for(file, junction, rec), MOST_ROOM)
+        answer, after = self.call("put", file, junction, self.record(rec), self.some(self.length(needed)))
+        done = is_done(answer)
+        return done, after["out"][:answer] if done else file
+
+    def go_back(self, file, junction):
+        """(Whether it is done, the file left)."""
+        answer, after = self.call("go_back", file, junction, self.some(self.length(len(file))))
+        done = is_done(answer)
+        return done, after["out"][:answer] if done else file
+
+    def look_up(self, file, junction):
+        """(The answer, the record buffer afterwards), in a buffer of a record's length."""
+        answer, after = self.call("look_up", file, junction, self.some(RECORD_BYTES))
+        return answer, after["record"]
+
     def case(self, case):
         """A case of the reference's lists, with contents of our own in the buffers to be written."""
         kind, given = forms.arguments(case)
@@ -472,6 +538,13 @@ class Test:
             self.call(entry, self.record(rec), law, self.some(len(octets)), self.state(state))
         elif entry == "find_state":
             self.call(entry, given[0], self.state(given[1]))
+        elif entry == "put":
+            file, junction, rec, out = given
+            self.call(entry, file, junction, self.record(rec), self.some(len(out)))
+        elif entry == "go_back":
+            self.call(entry, *given[:2], self.some(len(given[2])))
+        elif entry == "look_up":
+            self.call(entry, *given, self.cut(self.some(RECORD_BYTES)))
         elif entry == "send":
             rec, law, count, state, channel, number, data, octets = given
             self.call(entry, self.record(rec), law, count, channel, number, data, self.some(len(octets)),
@@ -823,6 +896,11 @@ class Test:
             self.call("receive", self.record(rec), draw.below(2), count, channel, draw.octets(6 * count),
                       self.some(needed), self.some(count), self.some(room), self.state(state))
         self.call("write_cp", short[0], self.some(draw.pick((0, 36, 122))))
+        file, junction = self.a_file(draw.below(3))[0], draw.below(4)
+        for lent in (file, self.broken(file)):
+            self.call("put", lent, junction, short[0], self.some(draw.pick((0, 36, 1000))))
+            self.call("put", lent, junction, whole[0], self.some(draw.pick((0, len(lent), 1000))))
+            self.call("look_up", lent, junction, short[0])
         self.call("read_cp", draw.octets(draw.pick((0, 37))), draw.pick((0, 294, 2**64 - 1)), short[0])
 
     def flipped(self):
@@ -920,6 +998,181 @@ class Test:
                 self.held["plan"].update(combinations(held + [17] * (room < PLAN_BYTES), 2))
             self.call("plan", k, law, spacing, ceiling, self.some(room))
 
+    # Scenes of the settings file
+
+    def a_setting(self):
+        """(A record, its CP with the ignored bits at random): mostly one drawn before, so that few are read."""
+        if len(self.drawn) < 40 or self.draw.below(8) == 0:
+            rec = self.any_record()
+            self.drawn = [*self.drawn[-39:], (rec, cases_cp.noisy(self.draw, rec))]
+        return self.draw.pick(self.drawn)
+
+    def a_file(self, count, settings_each=(1, 2), a_setting=None):
+        """(A file of so many junctions, {junction: [records of its settings, the current one first]})."""
+        draw, kept, found = self.draw, {}, []
+        while len(kept) < count:
+            kept[draw.pick((draw.below(4), draw.below(600), draw.bits(16), 65535))] = []
+        for junction in sorted(kept):
+            some = [(a_setting or self.a_setting)() for _ in range(draw.pick(settings_each))]
+            kept[junction] = [record.pack(rec) for rec, _ in some]
+            found.append(settings.Junction(junction, some[0][1], some[1][1] if len(some) > 1 else None))
+        return settings.write(found), kept
+
+    def a_full_file(self):
+        """The same of 40 junctions with two settings of six masks each: the longest file."""
+        while len(self.long_drawn) < 6:
+            rec = a_record(self.draw, self.draw.between(0, 28), 5)
+            self.long_drawn.append((rec, cases_cp.noisy(self.draw, rec)))
+        return self.a_file(40, (2,), lambda: self.draw.pick(self.long_drawn))
+
+    def a_junction(self, kept):
+        """A junction number: mostly one that is kept, at times one next to it or any."""
+        draw, any_number = self.draw, self.draw.bits(16)
+        here = draw.pick(list(kept)) if kept else any_number
+        return draw.pick((here, here, here, here, here, here ^ 1, here ^ 256, any_number))
+
+    def shows(self, file, junction, kept):
+        """A look-up, held against the setting last put or gone back to."""
+        answer, form = self.look_up(file, junction)
+        if junction in kept:
+            self.expect(answer == 0 and form == kept[junction][0], "another setting is shown")
+            self.settled["look-ups as kept"] += 1
+        else:
+            self.expect(answer == 23, "a junction is shown that was never put")
+
+    def settle(self, file, junction, kept):
+        """A put, a going back or a look-up; the file that it leaves. What it does is noted in `kept`."""
+        how, here = self.draw.below(9), kept.get(junction, [])
+        if how < 4:
+            rec = self.a_setting()[0]
+            done, file = self.put(file, junction, rec)
+            if done:
+                kept[junction] = [record.pack(rec), *here[:1]]
+                self.settled["puts"] += 1
+        elif how < 7:
+            done, file = self.go_back(file, junction)
+            if done:
+                kept[junction] = here[::-1]
+                self.settled["goings back"] += 1
+        else:
+            self.shows(file, junction, kept)
+        return file
+
+    def settling(self):
+        """Puts and goings back, each with the file that the one before it left, and look-ups between them.
+
+        A call that is refused for a short buffer leaves the file as it was.
+        """
+        draw = self.draw
+        file, kept = self.a_file(draw.pick((0, 0, 1, 2, 3, 6)))
+        numbers = [self.a_junction(kept) for _ in range(draw.between(1, 3))]
+        for _ in range(draw.between(4, 16)):
+            file = self.settle(file, draw.pick(numbers), kept)
+        for junction in {*numbers, self.a_junction(kept)}:
+            self.shows(file, junction, kept)
+        self.settled["runs"] += 1
+
+    def growing(self):
+        """Puts of one junction after another, from none or from many on, to beyond 40: the 41st is refused."""
+        draw = self.draw
+        file, kept = self.a_file(draw.pick((0, 36, 38, 39, 40)))
+        while len(kept) < 40:
+            file = self.settle(file, self.draw.bits(16), kept)
+        for junction in [draw.bits(16) for _ in range(3)] + [draw.pick(list(kept)) for _ in range(4)]:
+            rec = self.a_setting()[0]
+            room = cases_settings.room_for(file, junction, rec) + draw.below(3)
+            answer, after = self.call("put", file, junction, self.record(rec), self.some(room))
+            self.expect(is_done(answer) == (junction in kept) or answer == 16, "a 41st junction, or none of the 40")
+            if is_done(answer):
+                file, kept[junction] = after["out"][:answer], [record.pack(rec), *kept[junction][:1]]
+            self.settled["a 41st junction"] += answer == 24
+            self.shows(file, junction, kept)
+        crowded, kept = self.a_file(41)
+        junction = draw.pick(list(kept))
+        self.expect(self.look_up(crowded, junction)[0] == 22, "a file of 41 junctions is taken")
+        self.put(crowded, junction, rec)
+        self.go_back(crowded, junction)
+
+    def fullest(self):
+        """Calls with the longest file: a put over a setting keeps its length where the CP is as long."""
+        draw, (file, kept) = self.draw, self.a_full_file()
+        junction = draw.pick((min(kept), max(kept), draw.pick(list(kept))))
+        for _ in range(2):
+            file = self.settle(file, junction, kept)
+        done, file = self.put(file, junction, draw.pick(self.long_drawn)[0])
+        self.shows(file, draw.pick([other for other in kept if other != junction]), kept)
+        self.call("look_up", self.broken(file), junction, self.some(RECORD_BYTES))
+        self.settled["longest files"] += done
+
+    def a_place(self, file):
+        """A place in a file: any, or in the head or the start of an entry, or in the trailer."""
+        draw, parts = self.draw, settings.parts_of(file)
+        ends = [entry.place for entry in parts.entries] if parts else []
+        near = draw.pick(ends + [len(file)]) + draw.between(-4, 4)
+        return min(max(draw.pick((near, near, draw.below(len(file) + 1))), 0), len(file))
+
+    def broken(self, file):
+        """The file with some bits or bytes changed, cut out or put in; it may still be valid."""
+        draw, form = self.draw, bytearray(file)
+        for _ in range(draw.pick((1, 1, 1, 2, 3))):
+            place, some = self.a_place(bytes(form)), draw.pick((1, 1, 2, 4, 17, 43))
+            how = draw.below(8)
+            if how < 3 and place < len(form):
+                form[place] ^= 1 << draw.below(8)
+            elif how < 5 and place < len(form):
+                form[place] = draw.pick((0, 1, form[place] + 1 & 255, draw.bits(8)))
+            elif how == 5:
+                del form[place:place + some]
+            elif how == 6:
+                form[place:place] = draw.pick((draw.octets(some), form[:some]))
+            else:
+                form = form[:draw.pick((0, 1, 3, 4, len(form) - 4, place))] if draw.below(2) else form + form[-some:]
+        return bytes(form)
+
+    def rebuilt(self, file):
+        """A file of the same entries, one of them left out, moved, doubled or changed; all else is right."""
+        draw, pieces = self.draw, [cases_settings.Piece(entry.junction, entry.kind, entry.octets)
+                                   for entry in settings.parts_of(file).entries]
+        if not pieces:
+            return file
+        one, two = draw.pick(pieces), draw.pick(pieces)
+        n, m = draw.below(len(pieces)), draw.below(len(pieces))
+        other = one._replace(**draw.pick(({"kind": 1 - one.kind}, {"kind": 2}, {"junction": two.junction},
+                                          {"junction": one.junction + 1 & 0xFFFF}, {"octets": one.octets[:-1]},
+                                          {"octets": self.a_setting()[1]}, {"octets": two.octets})))
+        return cases_settings.built(draw.pick((pieces[:n] + pieces[n + 1:], pieces[n:] + pieces[:n],
+                                               pieces[:m] + [one] + pieces[m:], pieces[:n] + [other] + pieces[n + 1:],
+                                               pieces[:n] + [other] + pieces[n:])))
+
+    def breaking(self):
+        """Files changed in some places, handed to each entry, and on to the next call where that is done.
+
+        At last a record with an empty interval is put into one of them.
+        """
+        draw = self.draw
+        for _ in range(3):
+            file, kept = self.a_file(draw.pick((0, 1, 1, 2, 3)))
+            file, junction = draw.pick((self.broken, self.broken, self.rebuilt))(file), self.a_junction(kept)
+            self.call("look_up", file, junction, self.cut(self.some(RECORD_BYTES)))
+            _, file = self.put(file, junction, self.a_setting()[0])
+            _, file = self.go_back(file, junction)
+        self.put(file, junction, empty_by_own(draw, draw.between(1, 28), [draw.below(6)]))
+
+    def unshown(self):
+        """Look-ups in which each refusal, alone and with others, holds."""
+        for numbers in ({22}, {23}, {17}, {22, 23}, {22, 17}, {23, 17}, {22, 23, 17}):
+            file, junction = forms.arguments(cases_settings.faulty_look(self.draw, numbers))[1]
+            form = self.some(self.draw.below(RECORD_BYTES) if 17 in numbers else RECORD_BYTES)
+            held = [refusal.number for refusal in settings.look_faults(file, junction)]
+            self.held["look_up"].update(combinations(held + [17] * (len(form) < RECORD_BYTES), 2))
+            self.call("look_up", file, junction, form)
+
+    def listed_settings(self):
+        """Some cases of the reference's own lists of the settings file."""
+        for case in self.draw.pick(SETTINGS_GROUPS)(self.draw):
+            if self.draw.below(4) == 0:
+                self.case(case)
+
     def run(self):
         """All calls."""
         often = [self.a_run] * 40 + [self.marked] * 6 + [self.refused] * 6 + [self.flipped] * 6
@@ -928,12 +1181,16 @@ class Test:
         often += [self.turned] * 2
         rarely = [self.bad_buffers, self.edges, self.sparse, self.listed] * 2 + [self.a_sequence]
         rarely += [self.samples] * 6 + [self.learning] + [self.planning] * 3
+        often += [self.settling] * 5 + [self.breaking] * 4
+        rarely += [self.listed_settings] * 2 + [self.unshown]
         try:
             self.longest()
             while True:
                 self.draw.pick(often + rarely)()
                 if self.draw.below(1000) == 0:
                     self.longest()
+                if self.draw.below(200) == 0:
+                    self.draw.pick((self.growing, self.fullest))()
         except Enough:
             pass
 
@@ -971,6 +1228,9 @@ class Test:
         runs = sum(self.hits.values())
         print(f"one flipped sign: runs: {runs}, K and interval: {len(self.hits)} of {len(EACH_HIT)}")
         lacking += [f"a flipped sign, K and interval {hit}" for hit in EACH_HIT if not self.hits[hit]]
+        met = ("runs", "puts", "goings back", "look-ups as kept", "a 41st junction", "longest files")
+        print("settings files:", ", ".join(f"{what}: {self.settled[what]}" for what in met))
+        lacking += [f"settings files, {what}" for what in met if not self.settled[what]]
         if lacking and self.made >= ENOUGH:
             print("never came up:", ", ".join(lacking))
             return False

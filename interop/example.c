@@ -1,13 +1,13 @@
 /* Reads a CP, sends 63 one bits in three frames, receives them, and prints what came of it; another receiver begins cold.
-   Then a request to retrain goes through the control channel, and a circuit begins with its CP and E_s. Exits with 1 if
-   anything is not as expected. */
+   Then a request to retrain goes through the control channel, a circuit begins with its CP and E_s, and two settings of
+   a junction go into a settings file. Exits with 1 if anything is not as expected. */
 #include "v91.h"
 
 #include <stdio.h>
 #include <stdlib.h>
 #include <string.h>
 
-enum { FRAMES = 3, CP_BITS = 294 };
+enum { FRAMES = 3, CP_BITS = 294, JUNCTION = 300 };
 
 /* One mask with Ucodes 0 to 5 for all intervals, drn 1: a frame carries 21 bits. */
 static const uint8_t cp[37] = {
@@ -81,6 +81,32 @@ static void start_from_cp(const uint8_t *record)
     expect(v91_find_state(line, V91_FIND_OCTETS - 1, receiver, sizeof receiver) == V91_INPUT_TOO_SHORT, "23 octets are taken");
 }
 
+/* Two settings of a junction, put one after the other into an empty file; then back to the first of them. */
+static void settings_file(const uint8_t *record)
+{
+    static const uint8_t empty[] = V91_EMPTY_FILE;
+    static uint8_t one[V91_FILE_BYTES], two[V91_FILE_BYTES];
+    uint8_t other[V91_RECORD_BYTES], current[V91_RECORD_BYTES];
+    size_t entry = V91_ENTRY_BYTES(CP_BITS);
+
+    memcpy(other, record, sizeof other);
+    other[V91_RECORD_ACKNOWLEDGE] = 1;
+    uint32_t length = v91_put(empty, sizeof empty, JUNCTION, record, V91_RECORD_BYTES, one, sizeof one);
+    expect(!V91_REFUSED(length) && length == entry + V91_TRAILER_BYTES, "the first setting is refused");
+    expect(v91_go_back(one, length, JUNCTION, two, sizeof two) == V91_SETTING_MISSING, "one setting is exchanged");
+    length = v91_put(one, length, JUNCTION, other, sizeof other, two, sizeof two);
+    expect(!V91_REFUSED(length) && length == 2 * entry + V91_TRAILER_BYTES, "the second setting is refused");
+    expect(v91_look_up(two, length, JUNCTION, current, sizeof current) == 0, "the junction is not there");
+    expect(memcmp(current, other, sizeof current) == 0, "another setting than the one put last");
+    expect(v91_go_back(two, length, JUNCTION, one, sizeof one) == length, "there is no going back");
+    expect(v91_look_up(one, length, JUNCTION, current, sizeof current) == 0, "the junction is gone");
+    expect(memcmp(current, record, sizeof current) == 0, "another setting than the one gone back to");
+    printf("file   %u bytes", length);
+    print_hex(", trailer", one + length - V91_TRAILER_BYTES, V91_TRAILER_BYTES);
+    one[length - 1] = 0;
+    expect(v91_look_up(one, length, JUNCTION, current, sizeof current) == V91_FILE_BROKEN, "another version is taken");
+}
+
 int main(void)
 {
     uint8_t record[V91_RECORD_BYTES], again[V91_CP_BYTES];
@@ -138,5 +164,6 @@ int main(void)
                        cold, sizeof cold) == V91_DOUBTFUL_TOO_LARGE, "a count above 24 is taken");
     control_channel(record);
     start_from_cp(record);
+    settings_file(record);
     return 0;
 }

@@ -7,10 +7,11 @@
 #include <string.h>
 #include <ucontext.h>
 
-enum { STACK = 1 << 16, PAINT = 0xa5 };
+enum { STACK = 1 << 16, PAINT = 0xa5, MIDDLE = V91_JUNCTIONS / 2 };
 
 static uint8_t record[V91_RECORD_BYTES], cp[V91_CP_BYTES], state[V91_STATE_BYTES], marks[V91_FRAMES], heard[V91_HEARD_BYTES];
 static uint8_t bits[V91_FRAMES_DATA_BYTES], octets[V91_FRAMES_OCTETS], mask_and_sum[V91_PLAN_BYTES];
+static uint8_t file[V91_FILE_BYTES], out[V91_FILE_BYTES];
 static int32_t samples[V91_FRAMES_OCTETS];
 static uint32_t answer;
 
@@ -32,6 +33,27 @@ static void send_dil(void) { answer = v91_send_dil(true, octets, sizeof octets);
 static void send_cp(void) { answer = v91_send_cp(record, sizeof record, true, octets, sizeof octets, state, sizeof state); }
 static void find_state(void) { answer = v91_find_state(octets, V91_START_OCTETS, state, sizeof state); }
 static void plan(void) { answer = v91_plan(42, true, 16, UINT64_MAX, mask_and_sum, sizeof mask_and_sum); }
+static void put(void) { answer = v91_put(file, sizeof file, MIDDLE, record, sizeof record, out, sizeof out); }
+static void go_back(void) { answer = v91_go_back(file, sizeof file, MIDDLE, out, sizeof out); }
+static void look_up(void) { answer = v91_look_up(file, sizeof file, MIDDLE, record, sizeof record); }
+
+/* A full file: the record as both settings of each of the most junctions. */
+static void fill_file(void)
+{
+    static const uint8_t empty[] = V91_EMPTY_FILE;
+    size_t length = sizeof empty;
+
+    memcpy(file, empty, sizeof empty);
+    for (unsigned n = 0; n < 2 * V91_JUNCTIONS; n++) {
+        answer = v91_put(file, length, (uint16_t)(n / 2), record, sizeof record, out, sizeof out);
+        if (V91_REFUSED(answer)) {
+            fprintf(stderr, "footprint: the file is refused with %u\n", V91_NUMBER(answer));
+            exit(1);
+        }
+        length = answer;
+        memcpy(file, out, length);
+    }
+}
 
 static size_t used_by(void (*call)(void))
 {
@@ -81,5 +103,9 @@ int main(void)
     show("v91_send_cp", send_cp, V91_START_OCTETS);
     show("v91_find_state", find_state, 0);
     show("v91_plan", plan, 0);
+    fill_file();
+    show("v91_put", put, V91_FILE_BYTES);
+    show("v91_go_back", go_back, V91_FILE_BYTES);
+    show("v91_look_up", look_up, 0);
     return 0;
 }

@@ -28,6 +28,18 @@
  * history and the last sign that it leaves follow from the last 24 octets alone, whatever the state before them, so that
  * v91_find_state gives the far end the state in which v91_receive begins: every bit is then as sent, from the first.
  *
+ * Settings file: for each of at most 40 junctions the CP that is its current setting, and the previous one where
+ * there is one. An entry is the junction number in 2 bytes, one byte for current (0) or previous (1), one byte of CP
+ * length in bytes, the CP's bytes, and in 2 bytes the start of the entry before it, the first pointing to itself.
+ * Entries lie end to end from place 0, by rising junction number, for each one current and then at most one previous.
+ * The trailer follows: one byte counting the entries, the start of the last entry in 2 bytes, 0 where there is none,
+ * and last a version byte, 1. Numbers are low byte first. A file without entries is V91_EMPTY_FILE. v91_put makes a
+ * record's CP the current setting, the current one before it the previous one, and drops the older one; v91_go_back
+ * exchanges the two; the CP bytes of every other setting stay as they are. Both read the whole of `file`, check each
+ * CP in it, and write the file afresh into `out`, which is another buffer. A refused call changes nothing, so that the
+ * caller keeps the file that it has until the answer is a length. v91_look_up shows the setting last put or gone back
+ * to.
+ *
  * A flag counts as 1 where its byte is not 0, and is written as 0 or 1.
  *
  * Any arguments are allowed, as long as each pointer leads to as many elements as its length says (with
@@ -59,7 +71,7 @@ extern "C" {
 #endif
 
 /* Raised where a function is added, or a function, a layout or an answer changes. */
-#define V91_VERSION 6
+#define V91_VERSION 7
 
 /* ---- refusals */
 
@@ -83,16 +95,19 @@ enum v91_refusal {
     V91_PLACE_TOO_LARGE = 19,        /* the frame place exceeds 63 or the sequence place 15 */
     V91_TOO_MANY_FRAMES = 15,        /* there are more than 1,024 frames */
     V91_INPUT_TOO_SHORT = 16,        /* a buffer to be read is shorter than needed */
+    V91_FILE_BROKEN = 22,            /* the settings file breaks its rules, or a CP in it is refused */
+    V91_SETTING_MISSING = 23,        /* the junction, or going back its previous setting, is not in the file */
+    V91_TOO_MANY_JUNCTIONS = 24,     /* the put would make a 41st junction */
     V91_RATE_OR_SPACING_OUTSIDE = 26,/* K is outside 15 to 42, or the spacing outside 1 to 65,535 */
     V91_NO_MASK = 27,                /* no mask of M points keeps the spacing */
     V91_SUM_EXCEEDS_CEILING = 28,    /* the least sum of squares exceeds the ceiling */
     V91_OUTPUT_TOO_SHORT = 17        /* a buffer to be written is shorter than needed */
 };
 
-/* Whether an answer is a refusal: it is 1 to 19, 26 to 28, or 25 + (interval << 24). Else it is 0, the bit count
-   of v91_write_cp, which is 294 to 972, the octet count of v91_send_cp, 306 to 984, or the 1,500 octets of
-   v91_send_dil. */
-#define V91_REFUSED(answer) ((answer) != 0 && ((answer) < 294 || (answer) >= 1u << 24))
+/* Whether an answer is a refusal: it is 1 to 19, 22 to 24, 26 to 28, or 25 + (interval << 24). Else it is 0 or a count,
+   which is 47 or more: the bit count of v91_write_cp, 294 to 972, the octet count of v91_send_cp, 306 to 984, the 1,500
+   octets of v91_send_dil, or a file's length in bytes, of v91_put 47 to 10,244 and of v91_go_back 90 to 10,244. */
+#define V91_REFUSED(answer) ((answer) != 0 && ((answer) < 47 || (answer) >= 1u << 24))
 
 /* Of an answer that is a refusal: its number; and with V91_INTERVAL_EMPTY the lowest such interval, 0 to 5. */
 #define V91_NUMBER(answer) ((answer) & 0xff)
@@ -163,6 +178,14 @@ enum v91_heard {
 #define V91_START_OCTETS 984                                 /* the longest CP and E_s */
 #define V91_FIND_OCTETS 24                                   /* the octets from which a line state is found */
 
+/* ---- the settings file */
+
+#define V91_EMPTY_FILE { 0, 0, 0, 1 }                        /* the bytes of a file without entries, for an array */
+#define V91_ENTRY_BYTES(bit_count) (((size_t)(bit_count) + 7) / 8 + 6) /* of an entry with a CP of so many bits */
+#define V91_TRAILER_BYTES 4
+#define V91_JUNCTIONS 40                                     /* the most junctions of a file */
+#define V91_FILE_BYTES 10244                                 /* the longest file: `out` is never too short then */
+
 /* ---- functions */
 
 /* Reads the CP of bit_count bits into the record. Answers 0 or a refusal: 1 to 10, 25, 11, and 17 last. */
@@ -217,6 +240,19 @@ uint32_t v91_find_state(const uint8_t *octets, size_t octets_len, uint8_t *state
    first, as in a record, then that sum. Answers 0 or a refusal, which changes no byte: 26, 27, 28, and 17 last.
    In a record for it all six intervals name this mask and drn is K - 14. */
 uint32_t v91_plan(uint32_t k, bool a_law, uint32_t spacing, uint64_t ceiling, uint8_t *plan, size_t plan_len);
+
+/* Puts the record's CP into the settings file as the junction's current setting; the current one before it becomes the
+   previous one, and the older one is dropped. Writes the file into `out`. Answers its length in bytes, which is 47 to
+   10,244, or a refusal: 16 for a short record, 4, 9, 10, 25, 11, 12, 22, 24, 17; a record with drn 0 is put. */
+uint32_t v91_put(const uint8_t *file, size_t file_len, uint16_t junction, const uint8_t *record, size_t record_len,
+                 uint8_t *out, size_t out_len);
+
+/* Exchanges the junction's current and previous settings. Writes the file into `out`. Answers its length in bytes,
+   which is that of `file` and 90 to 10,244, or a refusal: 22, 23, 17. */
+uint32_t v91_go_back(const uint8_t *file, size_t file_len, uint16_t junction, uint8_t *out, size_t out_len);
+
+/* Reads the junction's current setting into the record. Answers 0 or a refusal: 22, 23, and 17 last. */
+uint32_t v91_look_up(const uint8_t *file, size_t file_len, uint16_t junction, uint8_t *record, size_t record_len);
 
 #ifdef __cplusplus
 }

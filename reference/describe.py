@@ -28,6 +28,11 @@ def rate(record):
     return f"{whole} {thirds}/3" if thirds else f"{whole}"
 
 
+def rate_words(record):
+    """The rate with its unit, or cleardown."""
+    return f"{rate(record)} kbit/s" if record.drn else "cleardown"
+
+
 def rate_line(record):
     """The line of the rate."""
     if record.drn == 0:

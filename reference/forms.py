@@ -1,9 +1,9 @@
 """The stored cases: one call of an entry as a byte string, and its answer as another.
 
-A case begins with its kind. The last field takes all the rest; count8 is 8 bytes and len2 2 bytes,
-low byte first; a record is 105 bytes, a line state 21, a law 1, whether the control channel is on
-1, the bits of a sequence 8 and what is heard 8. A refusal is 2 bytes: its number, 0 for none, and
-its value, which is the interval for 25 and 0 for all others.
+A case begins with its kind. The last field takes all the rest; count8 is 8 bytes, len2 2 bytes and
+len3 3 bytes, low byte first; a record is 105 bytes, a line state 21, a law 1, whether the control
+channel is on 1, the bits of a sequence 8, what is heard 8 and a junction number 2. A refusal is 2
+bytes: its number, 0 for none, and its value, which is the interval for 25 and 0 for all others.
 
     00  read_cp   count8 bit count, CP bytes
                   -> refusal, record
@@ -23,6 +23,12 @@ its value, which is the interval for 25 and 0 for all others.
                   -> refusal, state
     07  flip      record, law, state, frame, interval, octets
                   -> refusal, state, bits, marks, the same again, number of places, places
+    08  put       junction, record, len3 bytes lent, file
+                  -> refusal, len3 length of the new file, bytes lent
+    09  go_back   junction, len3 bytes lent, file
+                  -> refusal, len3 length of the new file, bytes lent
+    0a  look_up   junction, file
+                  -> refusal, record
 
 In a case of flip the receiver reads the octets twice from one state, the channel off, with 6 bytes
 of bits and 1 of marks lent for each frame: as they are, and with the sign of the octet in that
@@ -39,13 +45,14 @@ import flip
 import frames
 import linear
 import record
+import settings
 import start
 
-READ_CP, WRITE_CP, SEND, RECEIVE, LINEAR, SEND_CP, FIND_STATE, FLIP = range(8)
+READ_CP, WRITE_CP, SEND, RECEIVE, LINEAR, SEND_CP, FIND_STATE, FLIP, PUT, BACK, LOOK_UP = range(11)
 
 
 def octets_lent(length):
-    """An octet buffer to be written as handed in."""
+    """A buffer of octets, or of the bytes of a file, to be written as handed in."""
     return bytes((7 * i + 3) % 256 for i in range(length))
 
 
@@ -72,6 +79,11 @@ def number(form):
 def len2(value):
     """A length in two bytes."""
     return value.to_bytes(2, "little")
+
+
+def len3(value):
+    """A length in three bytes."""
+    return value.to_bytes(3, "little")
 
 
 def count8(value):
@@ -131,6 +143,21 @@ def flip_case(rec, law, state, frame, interval, octets):
     return head + frames.pack_state(state) + bytes([frame, interval]) + octets
 
 
+def put_case(file, junction, rec, room):
+    """A case of put with `room` bytes lent."""
+    return bytes([PUT]) + len2(junction) + record.pack(rec) + len3(room) + file
+
+
+def back_case(file, junction, room):
+    """A case of go_back with `room` bytes lent."""
+    return bytes([BACK]) + len2(junction) + len3(room) + file
+
+
+def look_up_case(file, junction):
+    """A case of look_up."""
+    return bytes([LOOK_UP]) + len2(junction) + file
+
+
 # Cases taken apart and answered
 
 def arguments(case):
@@ -150,6 +177,8 @@ def arguments(case):
     if kind == FLIP:
         rec, law, state = record.unpack(form[:105]), form[105], frames.unpack_state(form[106:127])
         return kind, (rec, law, state, *form[127:129], form[129:])
+    if kind in (PUT, BACK, LOOK_UP):
+        return kind, settings_arguments(kind, form)
     rec, law, count = record.unpack(form[:105]), form[105], number(form[106:114])
     head = rec, law, count, frames.unpack_state(form[114:135]), int(form[135] != 0)
     if kind == SEND:
@@ -157,6 +186,17 @@ def arguments(case):
         return kind, (*head, number(form[136:144]), form[146:], lent)
     lent = bits_lent(number(form[136:138])), marks_lent(number(form[138:140]))
     return kind, (*head, form[140:], *lent)
+
+
+def settings_arguments(kind, form):
+    """The arguments of an entry of the settings file."""
+    junction, rest = number(form[:2]), form[2:]
+    if kind == LOOK_UP:
+        return rest, junction
+    if kind == BACK:
+        return rest[3:], junction, octets_lent(number(rest[:3]))
+    lent = octets_lent(number(rest[105:108]))
+    return rest[108:], junction, record.unpack(rest[:105]), lent
 
 
 def reading(rec, law, state, octets):
@@ -188,6 +228,12 @@ def outcome(case):
         return start.find_state(*args)
     if kind == FLIP:
         return receptions(*args)
+    if kind == PUT:
+        return settings.put(*args)
+    if kind == BACK:
+        return settings.go_back(*args)
+    if kind == LOOK_UP:
+        return settings.look_up(*args)
     return linear.linear(*args)
 
 
@@ -208,6 +254,12 @@ def held(case):
         return list(start.find_faults(*args))
     if kind == FLIP:
         return list(frames.receive_faults(*reading(*args[:3], args[5])))
+    if kind == PUT:
+        return list(settings.put_faults(*args))
+    if kind == BACK:
+        return list(settings.back_faults(*args))
+    if kind == LOOK_UP:
+        return list(settings.look_faults(*args))
     return list(linear.faults(*args))
 
 
@@ -234,8 +286,10 @@ def answer(case):
         return flip_answer(case)
     refusal, *rest = outcome(case)
     head = bytes(refusal or (0, 0))
-    if case[0] == READ_CP:
+    if case[0] in (READ_CP, LOOK_UP):
         return head + record.pack(rest[0])
+    if case[0] in (PUT, BACK):
+        return head + len3(rest[0]) + rest[1]
     if case[0] == WRITE_CP:
         return head + len2(rest[0]) + rest[1]
     if case[0] == LINEAR:

@@ -3,16 +3,18 @@
 A command reads its input, writes to its output, which is a file or standard output, and says
 sentences, which go to standard output. Not modelled is what the stored script leaves out: the text
 of help, the order of data and sentences about frames on one output, an output that cannot be
-written, and `<` or `>` without a command before or a file after it.
+written but for a settings file whose directory is not there, and `<` or `>` without a command
+before or a file after it.
 """
 
 import re
 from collections import namedtuple
 
 import control
+import settings
 from cp import write_cp
-from describe import (counted, demo_lines, description, example_cp, rate_line, read_file,
-                      refusal_sentence, shown)
+from describe import (CP_LENGTHS, counted, demo_lines, description, example_cp, rate_line,
+                      rate_words, read_file, refusal_sentence, shown)
 from dil import TABLE_5, length as dil_length, send_dil
 from flip import changed_places
 from frames import (COLD, FRESH, MOST_DOUBTFUL, MOST_FRAMES, add_bits, control_frames, data_bits,
@@ -20,17 +22,21 @@ from frames import (COLD, FRESH, MOST_DOUBTFUL, MOST_FRAMES, add_bits, control_f
 from linear import linear
 from picture import LAW_NAMES, Picture, found_line, svg_lines, text_lines
 from plan import MOST_CEILING, RATES, SPACINGS, largest_spacing, plan, points_wanted
-from record import k_of, make
+from record import k_of, make, sizes_of
 from start import E_S, FOUND_FROM, UCODE, find_state, from_zero, octet_count
 from table1 import A, MU, ucode_of
 
 LAWS = {"mu": MU, "ulaw": MU, "a": A, "alaw": A}
 MOST_RUNS = 20
-VERSION = "v91 6"
+VERSION = "v91 7"
+JUNCTIONS = range(65536)
+MOST_OF_SETTINGS = 16_384
 HELP = ("help", "--help", "-h")
 
 NO_FILE = "there is no such file"
+WRONG_NUMBER = "wrong number of words; v91 help says what each command takes"
 CP_WANTED = "give the name of a file that holds a CP; v91 demo cp > FILE writes an example"
+SETTINGS_WANTED = "v91 settings FILE new makes a settings file"
 CLEARDOWN = ("the CP says cleardown (drn 0), so no data can be sent or received with it "
              "(refusal 13)")
 
@@ -73,6 +79,12 @@ def law_named(word):
 def has_word(words, wanted):
     """Whether a word is there, in capitals or not."""
     return wanted in [word.lower() for word in words]
+
+
+def check_count(words, least, most):
+    """Stop unless there are so many words."""
+    if not least <= len(words) <= most:
+        raise Failed(WRONG_NUMBER)
 
 
 def is_number(word):
@@ -124,15 +136,21 @@ def state_told(words):
     return COLD if has_word(words, "cold") else FRESH
 
 
+def octets_in(files, name, wanted):
+    """The bytes of a file; where it cannot be read, a sentence says what is wanted."""
+    if name == ".":
+        raise Failed(f"cannot read {name}: it is a directory, and a file is wanted", wanted)
+    if name not in files:
+        raise Failed(f"cannot open {shown(name)}: {NO_FILE}", wanted)
+    return files[name]
+
+
 def cp_in(files, name):
     """The record of a CP file."""
-    if name == ".":
-        raise Failed(f"cannot read {name}: it is a directory, and a file is wanted", CP_WANTED)
-    if name not in files:
-        raise Failed(f"cannot open {shown(name)}: {NO_FILE}", CP_WANTED)
-    refusal, record = read_file(files[name])
+    octets = octets_in(files, name, CP_WANTED)
+    refusal, record = read_file(octets)
     if refusal:
-        raise Failed(refusal_sentence(shown(name), files[name], refusal))
+        raise Failed(refusal_sentence(shown(name), octets, refusal))
     return record
 
 
@@ -526,6 +544,170 @@ def tell_flip(call, cp_name):
     call.write_lines(flip_lines(record))
 
 
+# Settings of junctions
+
+# A line of the table: a junction, the record of its current setting, and that of its previous one
+# or None.
+Row = namedtuple("Row", "junction current previous")
+
+TABLE_HEAD = "junction  rate            M0   M1   M2   M3   M4   M5  previous"
+
+
+def junction_named(word):
+    """The junction that a word gives."""
+    junction = number_for("JUNCTION", JUNCTIONS, word)
+    if junction not in JUNCTIONS:
+        raise Failed(f"JUNCTION is a number from {bounds(JUNCTIONS)}, not {shown(word)}")
+    return junction
+
+
+def settings_in(files, name):
+    """The bytes of a settings file; one that is too long is cut, and so it is refused."""
+    return octets_in(files, name, SETTINGS_WANTED)[:MOST_OF_SETTINGS]
+
+
+def as_it_was(name):
+    """What is said of a file that is not changed."""
+    return f"{shown(name)} is as it was"
+
+
+def save(files, name, octets):
+    """Write a settings file: first a temporary one, then this is renamed.
+
+    There is no directory but the one where all files are.
+    """
+    temporary = f"{name}.tmp"
+    if "/" in name:
+        raise Failed(f"cannot write {shown(temporary)}: {NO_FILE}", as_it_was(name))
+    files[temporary] = octets
+    files[name] = files.pop(temporary)
+
+
+def settings_refusal(name, octets, number, junction=0, what="setting"):
+    """What is said of refusals 22, 23 and 24; `what` is not there where it is 23."""
+    if number == 22:
+        sentence = (f"{shown(name)} is no settings file: it breaks the rules of one, "
+                    "or a CP in it is refused")
+    elif number == 23:
+        sentence = f"{shown(name)} has no {what} for junction {junction}"
+    else:
+        sentence = (f"{shown(name)} has {len(settings.read(octets))} junctions, the most there can "
+                    f"be, so junction {junction} cannot be put")
+    return f"{sentence} (refusal {number})"
+
+
+def rows_in(name, octets):
+    """The rows of a settings file, by rising junction."""
+    junctions = settings.read(octets)
+    if junctions is None:
+        raise Failed(settings_refusal(name, octets, 22))
+    return [Row(one.number, read_file(one.current)[1],
+                None if one.previous is None else read_file(one.previous)[1])
+            for one in junctions]
+
+
+def row_line(row):
+    """The line of a junction in the table."""
+    sizes = "".join(f"{size:5}" for size in sizes_of(row.current))
+    previous = "none" if row.previous is None else rate_words(row.previous)
+    return f"{row.junction:8}  {rate_words(row.current):13}{sizes}  {previous}"
+
+
+def list_sentence(rows):
+    """What is said after the table."""
+    kept = sum(row.previous is not None for row in rows)
+    return f"{counted(len(rows), 'junction')}, {kept} with a previous setting"
+
+
+def kept_words(record):
+    """What is said of a setting that is kept."""
+    return f"{rate_words(record)} kept as the previous setting"
+
+
+def put_sentence(junction, record, before):
+    """What is said of a setting that is put; the one before is None where there is none."""
+    kept = "its first setting" if before is None else kept_words(before)
+    return f"junction {junction}: {rate_words(record)} put, {kept}"
+
+
+def back_sentence(junction, current, previous):
+    """What is said of two settings that are exchanged, as they are then."""
+    return f"junction {junction}: back to {rate_words(current)}, {kept_words(previous)}"
+
+
+def new_settings(call, name):
+    """`settings FILE new`."""
+    if name in call.files:
+        raise Failed(f"{shown(name)} is there already; it is as it was")
+    save(call.files, name, settings.EMPTY_FILE)
+    call.say(f"{shown(name)} made, with no junction")
+
+
+def list_settings(call, name):
+    """`settings FILE list`."""
+    rows = rows_in(name, settings_in(call.files, name))
+    call.write_lines([TABLE_HEAD, *map(row_line, rows)])
+    call.say(list_sentence(rows))
+
+
+def put_setting(call, name, word, cp_name):
+    """`settings FILE put JUNCTION CPFILE`."""
+    junction, record = junction_named(word), cp_in(call.files, cp_name)
+    octets = settings_in(call.files, name)
+    refusal, length, out = settings.put(octets, junction, record, bytes(MOST_OF_SETTINGS))
+    if refusal:
+        raise Failed(settings_refusal(name, octets, refusal.number, junction), as_it_was(name))
+    absent, before = settings.look_up(octets, junction)
+    save(call.files, name, out[:length])
+    call.say(put_sentence(junction, record, None if absent else before))
+
+
+def back_setting(call, name, word):
+    """`settings FILE back JUNCTION`."""
+    junction, octets = junction_named(word), settings_in(call.files, name)
+    refusal, length, out = settings.go_back(octets, junction, bytes(MOST_OF_SETTINGS))
+    if refusal:
+        raise Failed(settings_refusal(name, octets, refusal.number, junction, "previous setting"),
+                     as_it_was(name))
+    save(call.files, name, out[:length])
+    current, previous = (settings.look_up(file, junction)[1] for file in (out[:length], octets))
+    call.say(back_sentence(junction, current, previous))
+
+
+def cp_octets(record):
+    """The bytes of a record's CP."""
+    _, count, octets = write_cp(record, bytes(max(CP_LENGTHS)))
+    return octets[:(count + 7) // 8]
+
+
+def show_setting(call, name, word, *form):
+    """`settings FILE show JUNCTION [cp]`."""
+    if form and form[0].lower() != "cp":
+        raise Failed(f"after JUNCTION there may be the word cp, not {shown(form[0])}")
+    junction, octets = junction_named(word), settings_in(call.files, name)
+    refusal, record = settings.look_up(octets, junction)
+    if refusal:
+        raise Failed(settings_refusal(name, octets, refusal.number, junction))
+    if form:
+        call.write(cp_octets(record))
+    else:
+        call.write_lines(description(record))
+
+
+# Each word after FILE with the least and the most words after it.
+SETTINGS = {"new": (new_settings, 0, 0), "list": (list_settings, 0, 0), "put": (put_setting, 2, 2),
+            "back": (back_setting, 1, 1), "show": (show_setting, 1, 2)}
+
+
+def with_settings(call, name, form, *words):
+    """`settings FILE` and one of the words above."""
+    if form.lower() not in SETTINGS:
+        raise Failed(f"after FILE settings takes new, list, put, back or show, not {shown(form)}")
+    command, least, most = SETTINGS[form.lower()]
+    check_count(words, least, most)
+    command(call, name, *words)
+
+
 # The other commands
 
 def tell_cp(call, name):
@@ -566,7 +748,8 @@ def tell_version(call):
 # Each command with the least and the most words after it.
 COMMANDS = {"cp": (tell_cp, 1, 1), "send": (send, 2, 9), "receive": (receive, 2, 7),
             "start": (send_start, 2, 2), "linear": (tell_linear, 1, 2), "dil": (write_dil, 1, 1),
-            "plan": (write_plan, 4, 5), "flip": (tell_flip, 1, 1), "demo": (demo, 0, 1),
+            "plan": (write_plan, 4, 5), "flip": (tell_flip, 1, 1),
+            "settings": (with_settings, 2, 4), "demo": (demo, 0, 1),
             "--version": (tell_version, 0, 0)}
 
 
@@ -596,8 +779,7 @@ def carry_out(call, name, *words):
     if name.lower() not in COMMANDS:
         raise Failed(f"there is no command {shown(name)}; v91 help says what there are")
     command, least, most = COMMANDS[name.lower()]
-    if not least <= len(words) <= most:
-        raise Failed("wrong number of words; v91 help says what each command takes")
+    check_count(words, least, most)
     command(call, *words)
 
 

@@ -1,4 +1,4 @@
-"""Refusals: document 01, 'When the codec declines', and A.1, A.2, A.3, A.8 and A.10 of
+"""Refusals: document 01, 'When the codec declines', and A.1, A.2, A.3, A.7, A.8 and A.10 of
 document 02.
 
 A refusal is a number and a value that goes with it: the interval for 25, 0 for all others.
@@ -9,7 +9,7 @@ from collections import namedtuple
 Refusal = namedtuple("Refusal", "number value", defaults=(0,))
 
 # The order in which the conditions are looked at; each entry uses some of them.
-ORDER = (*range(1, 11), 25, *range(11, 15), 18, 19, 15, 16, 26, 27, 28, 17)
+ORDER = (*range(1, 11), 25, *range(11, 15), 18, 19, 15, 16, *range(22, 25), 26, 27, 28, 17)
 
 
 def of_01(numbers):

@@ -2,7 +2,8 @@
 
 With -v it also says how many stored cases, rows of Table 1 and lines of the DIL each wrong codec
 fails, how many stored lines of plans each wrong planner, how many stored cases each wrong cost of a
-flipped sign, and at which line of the stored run each wrong program first differs.
+flipped sign and each wrong settings file, and at which line of the stored run each wrong program
+first differs.
 """
 
 import re
@@ -18,6 +19,7 @@ from xml.etree import ElementTree
 import cases_cp
 import cases_flip
 import cases_frames
+import cases_settings
 import cases_start
 import control
 import cp
@@ -30,6 +32,7 @@ import picture
 import plan
 import program
 import record as records
+import settings
 import start as starts
 import trial
 import vectors
@@ -532,7 +535,7 @@ def stored_pairs(name):
 
 
 def stored_cases():
-    """(Case, answer) for all stored cases but those of one flipped sign."""
+    """(Case, answer) for all stored cases but those of one flipped sign and of settings files."""
     return [pair for name in ("vectors_cp", "vectors_frames", "vectors_start")
             for pair in stored_pairs(name)]
 
@@ -573,16 +576,20 @@ def lent_unchanged(case):
         return [0, args[2], args[3]]
     if kind == forms.FIND_STATE:
         return [args[1]]
+    if kind in (forms.PUT, forms.BACK):
+        return [0, args[-1]]
+    if kind == forms.LOOK_UP:
+        return [EMPTY]
     return [args[3], control.NOTHING, *args[6:]]
 
 
-def stored_refusals():
-    """Each refusal of each entry is met alone, and each possible pair with the first answering.
+def refusals_met(both):
+    """(Refusals met alone, refusals met with another that answers) by kind, in some cases.
 
-    25 counts as alone with 11, which always holds with it.
+    25 counts as alone with 11, which always holds with it. The first that holds is the answer.
     """
     alone, met = set(), set()
-    for case, answer in stored_cases():
+    for case, answer in both:
         held = forms.held(case)
         numbers = [refusal.number for refusal in held]
         same(numbers, in_order(numbers), "order of refusals")
@@ -592,6 +599,12 @@ def stored_refusals():
         if len(held) == 1 or numbers == [25, 11]:
             alone.add((case[0], numbers[0]))
         met |= {(case[0], numbers[0], other) for other in numbers[1:]}
+    return alone, met
+
+
+def stored_refusals():
+    """Each refusal of each entry is met alone, and each possible pair with the first answering."""
+    alone, met = refusals_met(stored_cases())
     wanted = {forms.READ_CP: (cases_cp.READER_NUMBERS, cases_cp.pairs(cases_cp.READER_NUMBERS)),
               forms.WRITE_CP: (cases_cp.WRITER_NUMBERS, cases_cp.pairs(cases_cp.WRITER_NUMBERS)),
               forms.SEND: (cases_frames.NUMBERS, cases_frames.pairs()),
@@ -1668,6 +1681,256 @@ def stored_flips():
     frames_hit = {forms.arguments(case)[1][3] for case, _ in both}
     check({*range(6), 100, 209} <= frames_hit, "frames that are hit")
     return f"{len(found)} cases, {len(good)} of them with good frames"
+
+
+# Junction settings (A.7)
+
+# A file of junction 5 alone with the record of the examples.
+ONE_SETTING = bytes.fromhex("05000025ffff1900000000000000000000000000007e000000000000000000000000"
+                            "00000000e0d000000001000001")
+
+
+def settings_put(file, junction, record):
+    """The file after a put that is not declined."""
+    refusal, size, out = settings.put(file, junction, record, bytes(10300))
+    same(refusal, None, "refusal of put")
+    return out[:size]
+
+
+def gone_back(file, junction):
+    """The file after a going back that is not declined."""
+    refusal, size, out = settings.go_back(file, junction, bytes(len(file)))
+    same((refusal, size), (None, len(file)), "going back")
+    return out
+
+
+def shown(file, junction):
+    """The record of a look-up that is not declined."""
+    refusal, record = settings.look_up(file, junction)
+    same(refusal, None, "refusal of look_up")
+    return record
+
+
+def settings_values():
+    """Files made by hand, and the lengths of the longest ones."""
+    same(settings.EMPTY_FILE, bytes.fromhex("00000001"), "a file without entries")
+    same(settings.write([]), settings.EMPTY_FILE, "no junctions written")
+    same(settings.read(settings.EMPTY_FILE), [], "a file without entries read")
+    same(settings.read(b""), None, "an empty file")
+    same(settings_put(settings.EMPTY_FILE, 5, EXAMPLE), ONE_SETTING, "the first put")
+    two = settings_put(ONE_SETTING, 5, EMPTY)
+    same(two[:43], bytes.fromhex("05000025") + cases_cp.plain(EMPTY) + bytes(2), "the current one")
+    same(two[-4:], bytes.fromhex("022b0001"), "the trailer of two settings")
+    same(two[43:86], bytes.fromhex("05000125") + ONE_SETTING[4:41] + bytes(2), "the previous one")
+    three = settings_put(two, 256, EXAMPLE)
+    same(three[86:90] + three[-6:], bytes.fromhex("00010025" "2b00" "03560001"), "the third entry")
+    draw = Draw(22)
+    full = cases_settings.a_file(draw, cases_settings.numbered(draw, 40, 2), 5)
+    same((len(full), full[-4:]), (10244, bytes.fromhex("5080") + b"\x27\1"), "the longest file")
+    lengths = {37: 294, 54: 426, 71: 564, 88: 702, 105: 834, 122: 972}
+    same(settings.CP_BITS, lengths, "CP lengths")
+    return "7 files"
+
+
+def some_junctions(draw, most):
+    """Up to so many junctions with one or two settings each, ignored bits at random."""
+    numbers = {draw.pick((draw.below(300), draw.bits(16))) for _ in range(draw.below(most + 1))}
+    def cp_bytes():
+        return cases_settings.a_cp(draw, draw.pick((0, 0, 0, draw.below(6))))
+    return [settings.Junction(junction, cp_bytes(), cp_bytes() if draw.below(2) else None)
+            for junction in sorted(numbers)]
+
+
+def settings_round_trips():
+    """Junctions written and read, and files read and written, are as they were."""
+    draw = Draw(23)
+    for _ in range(150):
+        junctions = some_junctions(draw, draw.pick((3, 8, 40)))
+        file = settings.write(junctions)
+        same(settings.read(file), junctions, "junctions there and back")
+        same(len(file), settings.size_of(settings.VERSION_1, junctions), "size")
+        pieces = [cases_settings.Piece(*one) for one in settings.settings_of(junctions)]
+        same(cases_settings.built(pieces), file, "written in another way")
+    return "150 files"
+
+
+def as_written(file):
+    """Whether a file is what the writer makes of junctions that follow the rules."""
+    junctions = settings.found_in(file)[1]
+    numbers = [one.number for one in junctions]
+    return (numbers == sorted(set(numbers)) and len(numbers) <= 40
+            and all(one.current is not None for one in junctions)
+            and all(settings.cp_accepted(octets)
+                    for _, _, octets in settings.settings_of(junctions))
+            and settings.write(junctions) == file)
+
+
+def spoilt(draw, file):
+    """A file with some bytes changed, left out, put in or exchanged; at times none."""
+    file = bytearray(file)
+    for _ in range(draw.pick((0, 1, 1, 1, 2))):
+        place, size = draw.below(len(file) + 1), draw.pick((0, 1, 1, 2, 43))
+        more = draw.pick((b"", bytes(1), draw.octets(1), bytes(file[:43]), bytes([draw.below(4)])))
+        file[place:place + size] = more
+    return bytes(file)
+
+
+def settings_rules():
+    """A file keeps the rules where it is what the writer makes; any bytes get an answer."""
+    draw, kept = Draw(24), 0
+    for n in range(6000):
+        if n % 20 == 0:
+            small = settings.write(some_junctions(draw, 4))
+        file = spoilt(draw, small) if n % 8 else draw.octets(draw.below(60)) + b"\1"
+        right = as_written(file)
+        same(settings.read(file) is not None, right, f"rules of {file.hex()}")
+        kept += right
+        junction, lent = draw.pick((draw.below(300), draw.bits(16))), draw.octets(draw.below(400))
+        answers = (settings.put(file, junction, EXAMPLE, lent),
+                   settings.go_back(file, junction, lent), settings.look_up(file, junction))
+        for refusal, *left in answers:
+            check((refusal is not None and refusal.number == 22) == (not right), "22")
+            check(not refusal or left in ([0, lent], [EMPTY]), "what a refusal leaves")
+    check(500 < kept < 4000, "files that keep the rules")
+    return f"6000 files, {kept} of them keep the rules"
+
+
+def a_change(draw, file, junction, here):
+    """(File, the junction's settings as [record, CP bytes] afterwards) of a put or going back.
+
+    The settings are those there before, the current one first; a call may be declined.
+    """
+    if draw.below(5) < 3:
+        record = a_record(draw, draw.between(0, 28), draw.pick((0, 0, 1)))
+        file = settings_put(file, junction, record)
+        return file, [[record, cases_cp.plain(record)], *here[:1]]
+    if len(here) == 2:
+        after = gone_back(file, junction)
+        same(gone_back(after, junction), file, "back twice")
+        return after, here[::-1]
+    same(settings.go_back(file, junction, bytes(len(file))), (Refusal(23), 0, bytes(len(file))),
+         "nothing to go back to")
+    return file, here
+
+
+def check_settings(file, kept, looked_up, absent):
+    """A file has what a plain list of settings has, bytes and all, and shows some of it."""
+    same(settings.read(file), [settings.Junction(junction, here[0][1],
+                                                 here[1][1] if len(here) == 2 else None)
+                               for junction, here in sorted(kept.items()) if here], "settings kept")
+    for junction in looked_up:
+        if kept[junction]:
+            same(shown(file, junction), kept[junction][0][0], "the setting shown")
+    same(settings.look_up(file, absent), (Refusal(23), EMPTY), "a junction that is not there")
+
+
+def settings_operations():
+    """After any puts and goings back a look-up shows the setting last put or gone back to.
+
+    Junctions that are not named keep both settings, a put drops the older one.
+    """
+    draw = Draw(25)
+    for _ in range(40):
+        junctions = sorted({draw.bits(16) for _ in range(draw.between(1, 5))} - {77})
+        kept, file = {junction: [] for junction in junctions}, settings.EMPTY_FILE
+        if draw.below(2):
+            begun = [settings.Junction(junction, cases_settings.a_cp(draw), None)
+                     for junction in junctions]
+            file = settings.write(begun)
+            kept = {one.number: [[settings.cp_reading(one.current)[1], one.current]]
+                    for one in begun}
+        for n in range(50):
+            junction = draw.pick(junctions)
+            file, kept[junction] = a_change(draw, file, junction, kept[junction])
+            check_settings(file, kept, [junction] if n % 10 else junctions, 77)
+    return "2000 puts and goings back"
+
+
+def settings_refusals():
+    """put declines as the writer, then with 22, 24 and 17; the others with 22, 23 and 17."""
+    draw = Draw(26)
+    pieces = cases_settings.pieces_of(draw, cases_settings.numbered(draw, 40))
+    for _ in range(300):
+        record = faulty_record(draw, {draw.pick((4, 9, 10, 25, 11, 12))})
+        record = draw.pick((record, a_sparse_record(draw), a_record(draw, 0)))
+        first = cp.write_cp(record, bytes(5000))[0]
+        faults = [number for number in (22, 24, 17) if draw.below(2)]
+        some = pieces if 24 in faults else pieces[draw.between(1, 38):]
+        file = cases_settings.built(some, count=0 if 22 in faults else None)
+        needed = len(file) + 6 + settings.cp_size(record)
+        lent = bytes(draw.below(min(needed, 3000)) if 17 in faults else needed)
+        refusal, *left = settings.put(file, 0, record, lent)
+        same(refusal, first or next(map(Refusal, faults), None), f"with {faults}")
+        check(not refusal or left == [0, lent], "what a refusal leaves")
+        there = draw.pick(some).junction
+        for junction, known in ((0, False), (there, True)):
+            refusal = settings.look_up(file, junction)[0]
+            wanted = 22 if 22 in faults else None if known else 23
+            same(refusal.number if refusal else None, wanted, "look-up")
+            refusal = settings.go_back(file, junction, lent)[0]
+            same(refusal.number, 22 if 22 in faults else 23, "going back")
+    return "300 records and files"
+
+
+RULE_NAMES = [rule.__name__ for rule in settings.RULES]
+
+
+def broken_rules(file):
+    """The names of the rules that a file breaks, all of them."""
+    parts = settings.parts_of(file)
+    if parts is None:
+        return ("no parts",)
+    return tuple(rule.__name__ for rule in settings.RULES if not rule(parts))
+
+
+def settings_met(both):
+    """What stored cases of the settings file have: rules broken alone, junctions, bytes kept."""
+    broken, sizes, entries, kept = set(), set(), set(), 0
+    for case, answer in both:
+        kind, (file, junction, *_) = forms.arguments(case)
+        broken.add((kind, *broken_rules(file)))
+        there = settings.found_in(file)[1]
+        sizes.add((len(there), kind, answer[0]))
+        if answer[0] == 0:
+            one = settings.at(there, junction)
+            settings_there = 0 if one is None else 1 if one.previous is None else 2
+            entries.add((kind, settings_there))
+            copied = [octets for _, _, octets in settings.settings_of(there)
+                      if octets != settings.cp_octets(settings.cp_reading(octets)[1])]
+            kept += kind != forms.LOOK_UP and any(octets in answer for octets in copied)
+    return broken, sizes, entries, kept
+
+
+def stored_settings():
+    """What the stored cases of the settings file must have; their answers are the model's."""
+    both = stored_pairs("vectors_settings")
+    for case, answer in both:
+        same(forms.answer(case).hex(), answer.hex(), f"answer to {case.hex()}")
+        check(max(len(case), len(answer)) <= 12000, "a line of vectors_settings")
+    check(350 <= len(both) <= 650, "lines of vectors_settings")
+    texts = [stored_text(f"vectors_settings/{name}") for name in ("stdin", "stdout")]
+    check(sum(map(len, texts)) < 1_200_000, "size of vectors_settings")
+    alone, met = refusals_met(both)
+    wanted = {forms.PUT: (cases_settings.PUT_NUMBERS, cases_cp.pairs(cases_settings.PUT_NUMBERS)),
+              forms.BACK: ((22, 23, 17), ((22, 23), (22, 17), (23, 17))),
+              forms.LOOK_UP: ((22, 23), ((22, 23),))}
+    same(alone, {(kind, number) for kind, (numbers, _) in wanted.items() for number in numbers},
+         "refusals alone")
+    same(met, {(kind, *pair) for kind, (_, pairs) in wanted.items() for pair in pairs}, "pairs")
+    broken, sizes, entries, kept = settings_met(both)
+    check({(name,) for name in [*RULE_NAMES, "no parts"]} <= {names[1:] for names in broken},
+          "rules broken alone")
+    check({(41, kind, 22) for kind in wanted} | {(40, forms.PUT, 0), (40, forms.PUT, 24),
+          (39, forms.PUT, 0), (0, forms.PUT, 0), (0, forms.BACK, 23)} <= sizes, "junctions")
+    same(entries, {(forms.PUT, 0), (forms.PUT, 1), (forms.PUT, 2), (forms.BACK, 2),
+                   (forms.LOOK_UP, 1), (forms.LOOK_UP, 2)}, "settings there")
+    check(kept >= 80, "ignored bits kept")
+    check(10244 in {len(forms.arguments(case)[1][0]) for case, _ in both}, "the longest file")
+    left = {forms.outcome(case)[2] for case, answer in both
+            if case[0] != forms.LOOK_UP and not answer[0]}
+    after = sum(forms.arguments(case)[1][0] in left for case, _ in both)
+    check(after >= 100, "a file that another call left")
+    return f"{len(both)} cases, {after} of them with a file that another call left"
 
 
 # Wrong codecs
@@ -3652,6 +3915,540 @@ def wrong_flips():
     return f"{len(found)} stopped"
 
 
+# Wrong settings files
+
+RIGHT_JUNCTIONS = {name: getattr(settings, name)
+                  for name in ("after_back", "after_put", "at", "back_faults", "cp_octets",
+                               "cp_reading", "entry_at", "go_back", "junctions_in", "look_faults",
+                               "look_up", "parts_of", "put", "put_faults", "replaced",
+                               "settings_of", "version_of", "write", "written")}
+SETTINGS_ENTRIES = ("put", "go_back", "look_up")
+SETTINGS_FAULTS = ("put_faults", "back_faults", "look_faults")
+
+
+def rule_by(name, rule=lambda parts: True):
+    """The changes that put a rule in the place of another; without one, that is forgotten."""
+    rules = [rule if each.__name__ == name else each for each in settings.RULES]
+    return {"settings.RULES": tuple(rules)}
+
+
+def previous_for_current(entries):
+    """A previous setting stands in for a current one that is not there."""
+    return [one._replace(current=one.current or one.previous)
+            for one in RIGHT_JUNCTIONS["junctions_in"](entries)]
+
+
+def entry_let_in(name, rule=lambda parts: True):
+    """The changes of `rule_by`, a junction without a current setting showing its previous one."""
+    return rule_by(name, rule) | {"settings.junctions_in": previous_for_current}
+
+
+def starts_by(alike, places=lambda count: range(count + 1)):
+    """The changes that compare starts otherwise, at some places of so many entries.
+
+    The place of the trailer's start is the number of entries.
+    """
+    def rule(parts):
+        told = [entry.before for entry in parts.entries] + [parts.last]
+        right = [0] + [entry.place for entry in parts.entries]
+        return all(alike(told[n], right[n]) for n in places(len(parts.entries)))
+    return rule_by("starts_told", rule)
+
+
+def starts_but(skipped):
+    """The changes that compare all starts but some, made from the number of entries."""
+    return starts_by(int.__eq__, lambda count: [n for n in range(count + 1)
+                                                if n not in skipped(count)])
+
+
+def starts_inside(parts):
+    """Starts have to be inside the file, no more."""
+    end = sum(settings.entry_size(parts.version, entry.octets) for entry in parts.entries)
+    return all(entry.before < end for entry in parts.entries) and parts.last <= end
+
+
+def order_by(alike):
+    """The changes that compare (junction, kind) of neighbours otherwise."""
+    return rule_by("rising", lambda parts: all(
+        alike(low, high) for low, high in zip(parts.entries, parts.entries[1:])))
+
+
+def key_of(entry):
+    """Junction and kind."""
+    return entry.junction, entry.kind
+
+
+def rising_or_twice(kind):
+    """Rising, or two settings of one kind."""
+    return order_by(lambda low, high: key_of(low) < key_of(high)
+                    or key_of(low) == key_of(high) == (low.junction, kind))
+
+
+def cps_by(judged):
+    """The changes that judge the CPs of some entries alone."""
+    return rule_by("cps_accepted", lambda parts: all(
+        settings.cp_accepted(entry.octets) for entry in judged(parts.entries)))
+
+
+def cp_without(number):
+    """The changes that forget one of the reader's refusals in a file."""
+    def read_cp(octets, bit_count):
+        refusal = next(without(cp.reader_faults, number)(octets, bit_count), None)
+        return (refusal, EMPTY) if refusal else (None, cp.record_in(
+            cp.lent_bits(octets, bit_count)[1]))
+    return {"settings.read_cp": read_cp}
+
+
+def longer_cps(octets):
+    """A CP may have bytes after it."""
+    size = next((size for size in reversed(settings.CP_BITS) if size <= len(octets) and not
+                 cp.read_cp(octets[:size], settings.CP_BITS[size])[0]), len(octets))
+    return RIGHT_JUNCTIONS["cp_reading"](octets[:size])
+
+
+def version_by(**fields):
+    """The changes that give files of version 1 other widths or bounds."""
+    return {"settings.VERSIONS": (settings.VERSION_1._replace(**fields),)}
+
+
+def versions_taken(taken):
+    """The changes that take files with some last bytes for version 1."""
+    return {"settings.version_of": lambda file:
+            settings.VERSION_1 if file and taken(file[-1]) else None}
+
+
+def short_taken(least):
+    """The changes that take short files, of so many bytes or more, for one without entries."""
+    def filled(file):
+        return settings.EMPTY_FILE if least <= len(file) < 4 else file
+    return {f"settings.{name}": (lambda right: lambda file: right(filled(file)))(
+        RIGHT_JUNCTIONS[name]) for name in ("parts_of", "version_of")}
+
+
+def entries_with(change):
+    """The changes that make other entries of those walked."""
+    def entry_at(*args):
+        entry = RIGHT_JUNCTIONS["entry_at"](*args)
+        return entry and change(entry)
+    return {"settings.entry_at": entry_at}
+
+
+def named_by(change):
+    """The changes that make other arguments of the junction number, for all entries."""
+    def of(name):
+        return lambda file, junction, *rest: RIGHT_JUNCTIONS[name](file, change(junction), *rest)
+    return {f"settings.{name}": of(name) for name in SETTINGS_ENTRIES}
+
+
+def high_first(value, width):
+    """A number with its high byte first; a CP is no number."""
+    return value.to_bytes(width, "big" if width <= 2 else "little")
+
+
+def last_of_junction(entries):
+    """The last entry of a junction is its current setting."""
+    found = {one.number: one for one in RIGHT_JUNCTIONS["junctions_in"](entries)}
+    return [one._replace(current=one.previous or one.current) for one in found.values()]
+
+
+def look_up_by(setting):
+    """The changes that show another setting of a junction."""
+    def look_up(file, junction):
+        refusal, record = RIGHT_JUNCTIONS["look_up"](file, junction)
+        if refusal:
+            return refusal, record
+        return settings.cp_reading(setting(settings.at(settings.read(file), junction)))
+    return {"settings.look_up": look_up}
+
+
+def anew(octets):
+    """A CP as the writer writes its record; None stays."""
+    return octets and settings.cp_octets(settings.cp_reading(octets)[1])
+
+
+def put_by(change):
+    """The changes that make other settings of a junction by a put, from those before."""
+    def after_put(junctions, junction, octets):
+        here = settings.at(junctions, junction) or settings.Junction(junction, None, None)
+        return settings.replaced(junctions, here._replace(**change(here, octets)))
+    return {"settings.after_put": after_put}
+
+
+def three_kept(file, junction, record, out):
+    """A put keeps the older setting behind the previous one."""
+    refusal, size, after = RIGHT_JUNCTIONS["put"](file, junction, record, out)
+    older = refusal or settings.at(settings.read(file), junction)
+    if refusal or older is None or older.previous is None:
+        return refusal, size, after
+    pieces = [cases_settings.Piece(*one) for one in settings.settings_of(
+        settings.read(after[:size]))]
+    place = [piece.junction for piece in pieces].index(junction) + 2
+    pieces.insert(place, cases_settings.Piece(junction, settings.PREVIOUS, older.previous))
+    made = cases_settings.built(pieces)
+    return None, len(made), (made + out[len(made):])[:len(out)]
+
+
+def back_by(change):
+    """The changes that make other settings of a junction by a going back, from those before."""
+    def after_back(junctions, junction):
+        here = settings.at(junctions, junction)
+        return settings.replaced(junctions, here._replace(**change(here)))
+    return {"settings.after_back": after_back}
+
+
+def others_by(change):
+    """The changes that make others of the junctions that are not named."""
+    def replaced(junctions, one):
+        return [each if each.number == one.number else change(each)
+                for each in RIGHT_JUNCTIONS["replaced"](junctions, one)]
+    return {"settings.replaced": replaced}
+
+
+def laid_by(order):
+    """The changes that lay the junctions of a new file in another order."""
+    def replaced(junctions, changed_one):
+        others = [one for one in junctions if one.number != changed_one.number]
+        return order(junctions, others, changed_one)
+    return {"settings.replaced": replaced}
+
+
+def pieces_written(change):
+    """The changes that write other entries and trailers; `change` gives `built` its arguments."""
+    def write(junctions, version=settings.VERSION_1):
+        pieces = [cases_settings.Piece(*one) for one in settings.settings_of(junctions)]
+        return cases_settings.built(**{"pieces": pieces} | change(pieces))
+    return {"settings.write": write}
+
+
+def starts_written(start):
+    """The changes that write other starts, made from number and places of the entries."""
+    def change(pieces):
+        places = cases_settings.places_of(pieces)
+        return dict(pieces=[piece._replace(before=start(n, places))
+                            for n, piece in enumerate(pieces)])
+    return pieces_written(change)
+
+
+def settings_faults(change, names=SETTINGS_FAULTS):
+    """The changes that make other lists of refusals; `change` has the right one and its entry's."""
+    def of(name):
+        return lambda *args: iter(change(list(RIGHT_JUNCTIONS[name](*args)), *args))
+    return {f"settings.{name}": of(name) for name in names}
+
+
+def moved_in(name, number, moved):
+    """The changes that let an entry look at a refusal just before another."""
+    return {f"settings.{name}": moved_before(number, RIGHT_JUNCTIONS[name], moved)}
+
+
+def forgotten_in(name, number):
+    """A list of refusals of an entry with one forgotten."""
+    return {f"settings.{name}": without(RIGHT_JUNCTIONS[name], number)}
+
+
+def put_refusing(number, condition):
+    """The changes that let put have a refusal by another rule, made from junctions and number."""
+    def change(held, file, junction, *rest):
+        others = [fault for fault in held if fault.number != number]
+        if condition(settings.found_in(file)[1], junction):
+            others.append(Refusal(number))
+        return sorted(others, key=lambda fault: ORDER.index(fault.number))
+    return settings_faults(change, ("put_faults",))
+
+
+def cp_refusals_told(number):
+    """The changes that let an entry answer with a CP's own refusal where it has this number."""
+    def change(held, file, *rest):
+        parts = settings.parts_of(file)
+        for entry in parts.entries if parts else ():
+            refusal = (settings.cp_reading(entry.octets) or [None])[0]
+            if refusal and refusal.number == number:
+                return [refusal if fault.number == 22 else fault for fault in held]
+        return held
+    return settings_faults(change)
+
+
+def written_by(change):
+    """The changes that make other answers of put and go_back; `change` has answer and buffer."""
+    def of(name):
+        def entry(*args):
+            return change(RIGHT_JUNCTIONS[name](*args), args[-1])
+        return entry
+    return {f"settings.{name}": of(name) for name in ("put", "go_back")}
+
+
+def where_refused(change):
+    """The changes that leave other lengths and buffers after a refusal."""
+    return written_by(lambda found, out: (found[0], *change(found, out)) if found[0] else found)
+
+
+def where_written(change):
+    """The changes that leave other lengths and buffers where a call is accepted."""
+    return written_by(lambda found, out: found if found[0] else (None, *change(found, out)))
+
+
+def room_by(enough):
+    """The changes that compare the buffer otherwise with the new file and the old one."""
+    def put_faults(file, junction, record, out):
+        yield from without(RIGHT_JUNCTIONS["put_faults"], 17)(file, junction, record, out)
+        needed = cases_settings.room_for(file, junction, record)
+        if not enough(len(out), needed, len(file)):
+            yield Refusal(17)
+    def back_faults(file, junction, out):
+        yield from without(RIGHT_JUNCTIONS["back_faults"], 17)(file, junction, out)
+        if not enough(len(out), len(file), len(file)):
+            yield Refusal(17)
+    cut = where_written(lambda found, out: (found[1], found[2][:len(out)]))
+    return cut | {"settings.put_faults": put_faults, "settings.back_faults": back_faults}
+
+
+def back_without_previous(file, junction, out):
+    """A junction without a previous setting is gone back to as it is."""
+    found = RIGHT_JUNCTIONS["go_back"](file, junction, out)
+    if found[0] != Refusal(23) or RIGHT_JUNCTIONS["look_up"](file, junction)[0]:
+        return found
+    return settings.written(file, out) if len(out) >= len(file) else (Refusal(17), 0, out)
+
+
+def put_into_nothing(file, *rest):
+    """A put makes a file out of no bytes."""
+    return RIGHT_JUNCTIONS["put"](file or settings.EMPTY_FILE, *rest)
+
+
+WRONG_SETTINGS = {
+    "starts not looked at": rule_by("starts_told"),
+    "trailer's start not looked at": starts_but(lambda count: [count]),
+    "first entry's start not looked at": starts_but(lambda count: [0]),
+    "second entry's start not looked at": starts_but(lambda count: [1]),
+    "starts of middle entries not looked at": starts_but(lambda count: range(1, count - 1)),
+    "last entry's start not looked at": starts_but(lambda count: [count - 1]),
+    "trailer's start looked at alone": starts_by(int.__eq__, lambda count: [count]),
+    "trailer's start not looked at without entries": starts_but(
+        lambda count: [] if count else [0]),
+    "starts by their low bytes": starts_by(lambda told, right: told % 256 == right % 256),
+    "starts by 15 bits": starts_by(lambda told, right: told % 2**15 == right % 2**15),
+    "starts inside the file": rule_by("starts_told", starts_inside),
+    "starts at most": starts_by(int.__le__),
+    "starts at least": starts_by(int.__ge__),
+    "first entry's start after itself": starts_by(
+        lambda told, right: told == right or right == 0 and told == 43),
+    "count not looked at": rule_by("counted"),
+    "count at most": rule_by("counted", lambda parts: parts.count <= len(parts.entries)),
+    "count at least": rule_by("counted", lambda parts: parts.count >= len(parts.entries)),
+    "count 0 for any": rule_by("counted", lambda parts: parts.count in (0, len(parts.entries))),
+    "count of junctions read": rule_by("counted", lambda parts: parts.count == len(
+        settings.junctions_in(parts.entries))),
+    "count of 7 bits": rule_by("counted", lambda parts: parts.count % 128 == len(parts.entries)),
+    "file without entries refused": rule_by("counted", lambda parts: 0 < parts.count == len(
+        parts.entries)),
+    "bytes before the trailer ignored": rule_by("end_to_end"),
+    "zeros before the trailer ignored": rule_by("end_to_end", lambda parts:
+                                                not any(parts.between)),
+    "a few bytes before the trailer ignored": rule_by("end_to_end", lambda parts:
+                                                      len(parts.between) < 4),
+    "kinds not looked at": entry_let_in("kinds_known"),
+    "kind 2 let in": entry_let_in("kinds_known", lambda parts: all(
+        entry.kind <= 2 for entry in parts.entries)),
+    "kind by its lowest bit": entries_with(lambda entry: entry._replace(kind=entry.kind & 1)),
+    "kind 128 as 0": entries_with(lambda entry: entry._replace(kind=entry.kind % 128)),
+    "order not looked at": rule_by("rising"),
+    "junction numbers that may be equal": order_by(lambda low, high: low.junction <= high.junction),
+    "two previous ones let in": rising_or_twice(settings.PREVIOUS),
+    "two current ones let in": rising_or_twice(settings.CURRENT),
+    "previous before current": order_by(lambda low, high: key_of(low) < key_of(high)
+                                        or key_of(high) == (low.junction, settings.CURRENT)),
+    "junction numbers in any order": order_by(lambda low, high: low.junction != high.junction
+                                              or low.kind < high.kind),
+    "junction numbers by their low bytes": order_by(
+        lambda low, high: (low.junction % 256, low.kind) < (high.junction % 256, high.kind)),
+    "junction numbers with a sign": order_by(
+        lambda low, high: ((low.junction ^ 2**15, low.kind) < (high.junction ^ 2**15, high.kind))),
+    "previous without its current let in": entry_let_in("previous_after_current"),
+    "first entry may be previous": entry_let_in("previous_after_current", lambda parts: (
+        not parts.entries[1:] or settings.previous_after_current(
+            parts._replace(entries=[parts.entries[0]._replace(kind=0), *parts.entries[1:]])))),
+    "41 let in": version_by(most_junctions=41),
+    "39 at most": version_by(most_junctions=39),
+    "any number of junctions read": rule_by("few_enough"),
+    "40 entries at most": rule_by("few_enough", lambda parts: len(parts.entries) <= 40),
+    "CPs not judged": {"settings.cp_accepted": lambda octets: len(octets) in settings.CP_BITS},
+    "current CPs judged alone": cps_by(lambda entries: [
+        entry for entry in entries if entry.kind == settings.CURRENT]),
+    "previous CPs judged alone": cps_by(lambda entries: [
+        entry for entry in entries if entry.kind or len(entry.octets) not in settings.CP_BITS]),
+    "first CP judged alone": cps_by(lambda entries: entries[:1] + [
+        entry for entry in entries if len(entry.octets) not in settings.CP_BITS]),
+    "first CP not judged": cps_by(lambda entries: [
+        entry for entry in entries[:1] if len(entry.octets) not in settings.CP_BITS]
+        + entries[1:]),
+    "bytes after a CP let in": {"settings.cp_reading": longer_cps},
+    "CPs of 122 bytes not taken": {"settings.CP_BITS": {size: bits for size, bits in
+                                                       settings.CP_BITS.items() if size < 122}},
+    "CPs of 54 bytes not taken": {"settings.CP_BITS": {size: bits for size, bits in
+                                                      settings.CP_BITS.items() if size != 54}},
+    **{f"{number} of a CP forgotten": cp_without(number) for number in (3, 5, 6, 7, 8, 9, 10, 11)},
+    **{f"{number} of a CP told as {number}": cp_refusals_told(number)
+       for number in cases_settings.CP_NUMBERS},
+    "version not looked at": versions_taken(lambda byte: True),
+    "version 0 taken": versions_taken(lambda byte: byte <= 1),
+    "version 2 taken": versions_taken(lambda byte: byte in (1, 2)),
+    "version by its lowest bit": versions_taken(lambda byte: byte & 1),
+    "empty file taken": short_taken(0),
+    "file of one byte taken": short_taken(1),
+    "file of three bytes taken": short_taken(3),
+    "put into no bytes": {"settings.put": put_into_nothing},
+    "junction of 8 bits": named_by(lambda junction: junction % 256),
+    "junction of 12 bits": named_by(lambda junction: junction % 2**12),
+    "junction of 15 bits": named_by(lambda junction: junction % 2**15),
+    "junctions compared by 8 bits": {"settings.at": lambda junctions, junction: next(
+        (one for one in junctions if (one.number ^ junction) % 256 == 0), None)},
+    "high byte first": {"settings.number": lambda octets: int.from_bytes(octets, "big"),
+                        "settings.low_first": high_first},
+    "high byte read first": {"settings.number": lambda octets: int.from_bytes(octets, "big")},
+    "high byte written first": {"settings.low_first": high_first},
+    "last entry of a junction shown": {"settings.junctions_in": last_of_junction},
+    "previous setting shown": look_up_by(lambda one: one.previous or one.current),
+    "first junction shown": {"settings.look_up": lambda file, junction: (
+        lambda found: found if found[0] else settings.cp_reading(settings.read(file)[0].current))(
+            RIGHT_JUNCTIONS["look_up"](file, junction))},
+    "acknowledge not shown": {"settings.look_up": lambda *args: (
+        lambda refusal, record: (refusal, record._replace(acknowledge=0)))(
+            *RIGHT_JUNCTIONS["look_up"](*args))},
+    "CPs of others written anew": others_by(lambda one: one._replace(
+        current=anew(one.current), previous=anew(one.previous))),
+    "previous CPs of others written anew": others_by(lambda one: one._replace(
+        previous=anew(one.previous))),
+    "CP written anew by the put that moves it": put_by(lambda here, octets: dict(
+        current=octets, previous=anew(here.current))),
+    "CPs written anew by going back": back_by(lambda here: dict(
+        current=anew(here.previous), previous=anew(here.current))),
+    "current CP written anew by going back": back_by(lambda here: dict(
+        current=anew(here.previous), previous=here.current)),
+    "previous CP written anew by going back": back_by(lambda here: dict(
+        current=here.previous, previous=anew(here.current))),
+    "going back drops the previous": back_by(lambda here: dict(
+        current=here.previous, previous=None)),
+    "going back keeps the previous": back_by(lambda here: dict(current=here.previous)),
+    "going back changes nothing": back_by(lambda here: {}),
+    "going back for a single setting": {"settings.go_back": back_without_previous},
+    "older setting kept by a put": put_by(lambda here, octets: dict(
+        current=octets, previous=here.previous or here.current)),
+    "three settings kept by a put": {"settings.put": three_kept},
+    "setting before it dropped by a put": put_by(lambda here, octets: dict(
+        current=octets, previous=None)),
+    "previous setting left by a put": put_by(lambda here, octets: dict(current=octets)),
+    "put as the previous setting": put_by(lambda here, octets: dict(
+        current=here.current or octets, previous=octets if here.current else None)),
+    "same setting put once": put_by(lambda here, octets: {} if here.current and settings.cp_reading(
+        here.current) == settings.cp_reading(octets) else dict(
+            current=octets, previous=here.current)),
+    "others lose their previous settings": others_by(lambda one: one._replace(previous=None)),
+    "put last": laid_by(lambda junctions, others, one: [*others, one]),
+    "put first": laid_by(lambda junctions, others, one: [one, *others]),
+    "put last where it is not there": laid_by(lambda junctions, others, one: [
+        one if each.number == one.number else each for each in junctions]
+        + ([one] if len(others) == len(junctions) else [])),
+    "put by numbers with a sign": laid_by(lambda junctions, others, one: sorted(
+        [*others, one], key=lambda each: each.number ^ 2**15)),
+    "put by low bytes": laid_by(lambda junctions, others, one: sorted(
+        [*others, one], key=lambda each: (each.number % 256, each.number))),
+    "count of junctions written": pieces_written(lambda pieces: dict(
+        count=len({piece.junction for piece in pieces}))),
+    "trailer's start written as 0": pieces_written(lambda pieces: dict(last=0)),
+    "trailer's start written as the end": pieces_written(lambda pieces: dict(
+        last=cases_settings.places_of(pieces)[-1])),
+    "version 2 written": pieces_written(lambda pieces: dict(version=2)),
+    "own starts written": starts_written(lambda n, places: places[n]),
+    "starts of the next entries written": starts_written(lambda n, places: places[n + 1]),
+    "starts written as 0": starts_written(lambda n, places: 0),
+    "distances written": starts_written(lambda n, places: places[n] - places[max(n - 1, 0)]),
+    "first start written as the end": starts_written(
+        lambda n, places: places[n - 1] if n else places[-1]),
+    "previous written first": {"settings.settings_of": lambda junctions: (
+        one for number in [each.number for each in junctions]
+        for one in reversed([each for each in RIGHT_JUNCTIONS["settings_of"](junctions)
+                             if each[0] == number]))},
+    "put written with acknowledge": {"settings.cp_octets": lambda record: RIGHT_JUNCTIONS[
+        "cp_octets"](record._replace(acknowledge=1))},
+    "22 after 24": moved_in("put_faults", 22, 24),
+    "22 after 23 going back": moved_in("back_faults", 22, 23),
+    "22 after 23 at a look-up": moved_in("look_faults", 22, 23),
+    "22 after 17 at a put": moved_in("put_faults", 22, 17),
+    "22 after 17 going back": moved_in("back_faults", 22, 17),
+    "17 before 23": moved_in("back_faults", 23, 17),
+    "17 before 24": moved_in("put_faults", 24, 17),
+    "17 before the record's refusals": moved_in("put_faults", 4, 17),
+    "17 before 12 at a put": moved_in("put_faults", 12, 17),
+    "22 before the record's refusals": moved_in("put_faults", 4, 22),
+    "22 before 12": moved_in("put_faults", 12, 22),
+    "22 before 11": moved_in("put_faults", 11, 22),
+    "24 before the record's refusals": moved_in("put_faults", 4, 24),
+    "24 before 12": moved_in("put_faults", 12, 24),
+    "25 after 11 at a put": moved_in("put_faults", 12, 25),
+    "12 forgotten at a put": forgotten_in("put_faults", 12),
+    "24 forgotten": forgotten_in("put_faults", 24),
+    "24 for a junction that is there": put_refusing(24, lambda there, junction: len(there) >= 40),
+    "24 by entries": put_refusing(24, lambda there, junction: settings.at(
+        there, junction) is None and len(list(settings.settings_of(there))) >= 40),
+    "24 for a 40th": put_refusing(24, lambda there, junction: settings.at(
+        there, junction) is None and len(there) >= 39),
+    "23 on a put": put_refusing(23, lambda there, junction: settings.at(there, junction) is None),
+    "13 on a put": settings_faults(lambda held, file, junction, record, out: [
+        *held, *[Refusal(13)] * (record.drn == 0)], ("put_faults",)),
+    "23 for a look-up without a previous setting": settings_faults(
+        lambda held, file, junction: held or [Refusal(23)] * (
+            settings.at(settings.read(file), junction).previous is None), ("look_faults",)),
+    "23 told as 22": settings_faults(lambda held, *given: [
+        Refusal(22) if fault.number == 23 else fault for fault in held]),
+    "24 told as 23": settings_faults(lambda held, *given: [
+        Refusal(23) if fault.number == 24 else fault for fault in held]),
+    "out cleared after a refusal": where_refused(lambda found, out: (0, bytes(len(out)))),
+    "first byte of out cleared after a refusal": where_refused(
+        lambda found, out: (0, bytes(len(out[:1])) + out[1:])),
+    "out's length told after a refusal": where_refused(lambda found, out: (len(out), out)),
+    "rest of out cleared": where_written(lambda found, out: (
+        found[1], found[2][:found[1]] + bytes(len(out) - found[1]))),
+    "a byte beyond the file cleared": where_written(lambda found, out: (
+        found[1], found[2][:found[1]] + bytes(len(out[found[1]:][:1])) + out[found[1] + 1:])),
+    "out's length told": where_written(lambda found, out: (len(out), found[2])),
+    "length without the trailer told": where_written(lambda found, out: (found[1] - 4, found[2])),
+    "trailer not written": where_written(lambda found, out: (
+        found[1], found[2][:found[1] - 4] + out[found[1] - 4:])),
+    "buffer one too short taken": room_by(lambda lent, needed, old: lent >= needed - 1),
+    "buffer without room for a trailer taken": room_by(lambda lent, needed, old:
+                                                       lent >= needed - 4),
+    "buffer that just fits refused": room_by(lambda lent, needed, old: lent > needed),
+    "buffer of the old file's length taken": room_by(lambda lent, needed, old:
+                                                     lent >= min(needed, old)),
+    "buffer of the old file's length asked for": room_by(lambda lent, needed, old:
+                                                         lent >= max(needed, old)),
+    "buffer for the longest file asked for": room_by(lambda lent, needed, old: lent >= 10244),
+}
+
+
+def failing_settings(both):
+    """Whether each stored case of the settings file has another answer."""
+    return (forms.answer(case) != answer for case, answer in both)
+
+
+def wrong_settings():
+    """Every wrong settings file fails at a stored case; the short ones are looked at first.
+
+    Without -v no more than the first is looked for.
+    """
+    both = sorted(stored_pairs("vectors_settings"), key=lambda pair: sum(map(len, pair)))
+    found = {}
+    for name, changes in WRONG_SETTINGS.items():
+        with changed(changes):
+            found[name] = (sum if "-v" in sys.argv else any)(failing_settings(both))
+    if "-v" in sys.argv:
+        for name, count in found.items():
+            print(f"    {name}: fails {count} of {len(both)}")
+    check(all(found.values()), f"not stopped: {[name for name in found if not found[name]]}")
+    check(not any(failing_settings(both)), "the model itself")
+    return f"{len(found)} stopped"
+
+
 # The program
 
 def verdicts(script, lines):
@@ -4071,6 +4868,135 @@ def flip_sentences():
     return f"{len(told)} sentences, 28 K"
 
 
+def settings_sentences():
+    """What is said of settings files, by examples; a refused change leaves the file alone."""
+    files = {"example.cp": cases_cp.plain(EXAMPLE), "none.cp": cases_cp.plain(EMPTY),
+             "two.cp": cases_cp.plain(make(0, 2, 0, [0] * 6, [127])), "empty": b""}
+    told = {
+        "d put 7 example.cp": "junction 7: 28 kbit/s put, its first setting",
+        "d Put 007 two.cp": "junction 7: 29 1/3 kbit/s put, 28 kbit/s kept as the previous setting",
+        "d put 65535 none.cp": "junction 65535: cleardown put, its first setting",
+        "d BACK 7": "junction 7: back to 28 kbit/s, 29 1/3 kbit/s kept as the previous setting",
+        "d put 7 none.cp": "junction 7: cleardown put, 28 kbit/s kept as the previous setting",
+    }
+    same(said(files, "settings d new"), ["v91: d made, with no junction", "v91: ok"], "new")
+    same(files["d"], b"\0\0\0\1", "a new file")
+    for words, sentence in told.items():
+        same(said(files, f"settings {words}"), [f"v91: {sentence}", "v91: ok"], words)
+        check("d.tmp" not in files, "the temporary file")
+    kept, first = files["d"], refused_sentences()
+    for words, sentences in first.items():
+        before = dict(files)
+        same(said(files, f"settings {words}"), [*(f"v91: {one}" for one in sentences),
+                                                "v91: failed"], words)
+        same(files, before, f"files after {words}")
+    same(said(files, "settings d show 7"), said(files, "cp none.cp"), "show")
+    same(said(files, "settings d show 65535 Cp > made"), ["v91: ok"], "show cp")
+    same((files["made"], files["d"]), (files["none.cp"], kept), "the CP shown, and the file")
+    return f"{len(told) + len(first) + 3} commands"
+
+
+def refused_sentences():
+    """Words of settings that are refused, with what is said of each."""
+    broken = "{} is no settings file: it breaks the rules of one, or a CP in it is refused " \
+             "(refusal 22)"
+    number = "wrong number of words; v91 help says what each command takes"
+    absent = "cannot open x: there is no such file"
+    return {
+        "d new": ["d is there already; it is as it was"],
+        "x/d new": ["cannot write x/d.tmp: there is no such file", "x/d is as it was"],
+        "x list": [absent, "v91 settings FILE new makes a settings file"],
+        "x put 7 example.cp": [absent, "v91 settings FILE new makes a settings file"],
+        "x put 7 empty": ["empty is empty; a CP has 37, 54, 71, 88, 105 or 122 bytes (refusal 2)"],
+        "empty list": [broken.format("empty")],
+        "two.cp show 7": [broken.format("two.cp")],
+        "empty put 7 two.cp": [broken.format("empty"), "empty is as it was"],
+        "empty back 7": [broken.format("empty"), "empty is as it was"],
+        "d show 8": ["d has no setting for junction 8 (refusal 23)"],
+        "d back 8": ["d has no previous setting for junction 8 (refusal 23)", "d is as it was"],
+        "d back 65535": ["d has no previous setting for junction 65535 (refusal 23)",
+                         "d is as it was"],
+        "x show 65536": ["JUNCTION is a number from 0 to 65535, not 65536"],
+        "x show 7 words": ["after JUNCTION there may be the word cp, not words"],
+        "x take": ["after FILE settings takes new, list, put, back or show, not take"],
+        "x": [number], "x new 7": [number], "x put 7": [number], "x show 7 cp 7": [number],
+    }
+
+
+def settings_tables():
+    """The table of list by its columns, for files of records at random."""
+    draw = Draw(37)
+    for n in range(120):
+        count = draw.pick((0, 1, 40, draw.below(40)))
+        numbers = sorted({draw.pick((0, 65535, draw.below(65536))) for _ in range(count)})
+        pairs = [(a_record(draw, draw.below(29)), draw.pick((None, a_record(draw, draw.below(29)))))
+                 for _ in numbers]
+        file = settings.write([
+            settings.Junction(number, cases_cp.plain(one), other and cases_cp.plain(other))
+            for number, (one, other) in zip(numbers, pairs)])
+        head, *lines, summed, done = said({"f": file}, "settings f list")
+        same(head, "junction  rate            M0   M1   M2   M3   M4   M5  previous", "head")
+        same(done, "v91: ok", "list")
+        same([table_columns(line) for line in lines],
+             [(str(number), rate_named(one), [str(size) for size in records.sizes_of(one)],
+               rate_named(other)) for number, (one, other) in zip(numbers, pairs)], "rows")
+        some = "1 junction" if len(numbers) == 1 else f"{len(numbers)} junctions"
+        kept = sum(other is not None for _, other in pairs)
+        same(summed, f"v91: {some}, {kept} with a previous setting", "after the table")
+    return "120 files"
+
+
+def table_columns(line):
+    """The columns of a line of the table; each stands in its place."""
+    check(line == line.rstrip(), "spaces at the end of a line")
+    sizes = [line[at:at + 5] for at in range(23, 53, 5)]
+    same((line[8:10], line[53:55]), ("  ", "  "), "spaces between columns")
+    same([one.rjust(width) for one, width in zip([line[:8].strip(), *map(str.strip, sizes)],
+                                                 [8] + [5] * 6)], [line[:8], *sizes], "numbers")
+    same(line[10:23].rstrip().ljust(13), line[10:23], "the rate")
+    return line[:8].strip(), line[10:23].rstrip(), [size.strip() for size in sizes], line[55:]
+
+
+def rate_named(record):
+    """The rate in words, in thirds of a kbit/s from D; none where there is no record."""
+    if record is None or record.drn == 0:
+        return "none" if record is None else "cleardown"
+    thirds = 4 * (record.drn + 20)
+    return f"{thirds // 3}{('', ' 1/3', ' 2/3')[thirds % 3]} kbit/s"
+
+
+def settings_runs():
+    """Puts and goings back at random: what is shown is the setting last put or gone back to."""
+    draw = Draw(38)
+    for _ in range(40):
+        files, held = {}, {}
+        said(files, "settings f new")
+        for _ in range(24):
+            number = draw.pick((0, 1, 256, 257, 65535))
+            one, (now, before) = a_record(draw, draw.below(29)), held.get(number, (None, None))
+            files["one.cp"] = cases_cp.noisy(draw, one)
+            put = draw.below(3) > 0
+            done = said(files, f"settings f {f'put {number} one.cp' if put else f'back {number}'}")
+            same(done[-1] == "v91: ok", bool(put or before), "whether it is done")
+            if put or before:
+                held[number] = (one, now) if put else (before, now)
+            check_shown(files, held, number)
+        same([int(line[:8]) for line in said(files, "settings f list")[1:-2]], sorted(held), "list")
+    return "40 files"
+
+
+def check_shown(files, held, number):
+    """What is shown of a junction, in words and as a CP, is the setting that it has."""
+    same(sorted(files), ["f", "one.cp"], "files")
+    if number in held:
+        now = held[number][0]
+        same(said(files, f"settings f show {number}"),
+             describe.description(now) + ["v91: ok"], "show")
+        made = dict(files)
+        said(made, f"settings f show {number} cp > made")
+        same(made["made"], cases_cp.plain(now), "show cp")
+
+
 def stored_data():
     """The stored data files of v91: {name: bytes}."""
     return {name: vectors.stored(f"{vectors.DATA}/{name}")
@@ -4082,14 +5008,15 @@ def stored_run():
     data, lines = stored_data(), stored_text("v91/stdout").splitlines()
     script = data[trial.NAME].decode("ascii")
     check(len(script) <= 32_000, "length of the script")
-    check(sum(map(len, data.values())) < 60_000, "data files")
+    check(sum(map(len, data.values())) < 90_000, "data files")
     check(stored_text("v91/stdout").replace("\t", "").replace("\n", "").replace("\x7f", "")
           .isprintable(), "the transcript is no text")
     found = verdicts(script, lines)
     told = {int(number) for number in re.findall(r"\(refusal (\d+)\)", "\n".join(lines))}
-    same(told, {*range(2, 12), 13, 25, 26, 27, 28}, "refusals told")
+    same(told, {*range(2, 12), 13, *range(22, 29)}, "refusals told")
     outcomes = {(program.words_of(command)[0].lower(), good) for command, good in found}
-    for command in ("cp", "send", "receive", "start", "linear", "dil", "plan", "flip", "demo"):
+    for command in ("cp", "send", "receive", "start", "linear", "dil", "plan", "flip", "settings",
+                    "demo"):
         check({(command, True), (command, False)} <= outcomes, f"{command} good and failing")
     check({("--version", True), ("run", False), ("nonsense", False)} <= outcomes, "other words")
     same(set(map(len, trial.good_cps().values())), set(describe.CP_LENGTHS), "lengths of CPs read")
@@ -5350,6 +6277,471 @@ WRONG_FLIP_PROGRAMS = {
 }
 
 
+# Wrong programs of settings files
+
+RIGHT_SETTINGS = {name: getattr(program, name)
+                  for name in ("SETTINGS", "back_sentence", "junction_named", "list_sentence",
+                               "octets_in", "put_sentence", "row_line", "rows_in", "save",
+                               "settings_refusal", "with_settings")}
+RIGHT_FILES = {name: getattr(settings, name) for name in ("after_put", "put", "read")}
+FORMS = {name: command for name, (command, _, _) in program.SETTINGS.items()}
+
+
+def settings_by(**changed):
+    """The changes that let some of the words after FILE do something else."""
+    forms = RIGHT_SETTINGS["SETTINGS"]
+    return {"program.SETTINGS": forms | {name: (command, *forms[name][1:])
+                                         for name, command in changed.items()}}
+
+
+def settings_taking(name, least, most):
+    """The changes that let a word after FILE take so many words; those too many are dropped."""
+    command, _, right = RIGHT_SETTINGS["SETTINGS"][name]
+    return {"program.SETTINGS": program.SETTINGS | {name: (
+        lambda call, file, *words: command(call, file, *words[:right]), least, most)}}
+
+
+def settings_saying(name, change):
+    """The changes that say something else, made from what is said and what it is said of."""
+    return {f"program.{name}": lambda *args: change(RIGHT_SETTINGS[name](*args), *args)}
+
+
+def settings_failing(change, *names):
+    """The changes that make other sentences, where words after FILE fail, from these and FILE."""
+    def failing(right):
+        def command(call, file, *words):
+            try:
+                right(call, file, *words)
+            except program.Failed as failure:
+                raise program.Failed(*change(failure.args, file)) from None
+        return command
+    return settings_by(**{name: failing(FORMS[name]) for name in names})
+
+
+def unsaid_after(number):
+    """What makes sentences end with the one that tells a refusal."""
+    return lambda told, file: told[:1] if f"(refusal {number})" in told[0] else told
+
+
+def refused_changing(name, what, octets):
+    """The changes that leave other bytes in the file where a change fails with these words."""
+    def command(call, file, *words):
+        try:
+            FORMS[name](call, file, *words)
+        except program.Failed as failure:
+            if what in failure.args[0] and file in call.files:
+                call.files[file] = octets
+            raise
+    return settings_by(**{name: command})
+
+
+def settings_looking(name, look):
+    """The changes that let a word after FILE look at something first."""
+    def command(call, file, *words):
+        look(call, file, *words)
+        FORMS[name](call, file, *words)
+    return settings_by(**{name: command})
+
+
+def file_before_junction(call, file, *words):
+    """FILE is looked at after the words that JUNCTION is looked at after."""
+    if [word.lower() for word in words[1:]] in ([], ["cp"]):
+        program.settings_in(call.files, file)
+
+
+def file_before_cp(call, file, word, cp_name):
+    """FILE is looked at after JUNCTION."""
+    program.junction_named(word)
+    program.settings_in(call.files, file)
+
+
+def rules_before_cp(call, file, word, cp_name):
+    """22 is told of a FILE that is there, after JUNCTION."""
+    program.junction_named(word)
+    octets = call.files.get(file, settings.EMPTY_FILE)
+    if settings.read(octets) is None:
+        raise program.Failed(program.settings_refusal(file, octets, 22), program.as_it_was(file))
+
+
+def file_before_words(call, file, *words):
+    """FILE is looked at before the words after it."""
+    if words[0].lower() != "new":
+        program.settings_in(call.files, file)
+    RIGHT_SETTINGS["with_settings"](call, file, *words)
+
+
+def put_making(call, file, *words):
+    """A file that is not there is made."""
+    program.cp_in(call.files, words[1])
+    call.files.setdefault(file, settings.EMPTY_FILE)
+    FORMS["put"](call, file, *words)
+
+
+def junctions_by(change):
+    """The changes that take another junction than the one given."""
+    return {"program.junction_named": lambda word: change(RIGHT_SETTINGS["junction_named"](word))}
+
+
+def junctions_like(form, taken=lambda number: number % 65536):
+    """The changes that take other words for JUNCTION."""
+    def named(word):
+        return taken(int(word)) if re.fullmatch(form, word) else program.number_for(
+            "JUNCTION", program.JUNCTIONS, word if not word.isdigit() else "x")
+    return {"program.junction_named": named}
+
+
+def numbers_in_sentence(word):
+    """What is said of a JUNCTION that is too large has its number and not the word."""
+    try:
+        return RIGHT_SETTINGS["junction_named"](word)
+    except program.Failed as failure:
+        said_of = failure.args[0].replace(word, str(int(word))) if word.isdigit() else None
+        raise program.Failed(said_of or failure.args[0]) from None
+
+
+class JunctionTyped(int):
+    """A junction that is shown as it was typed."""
+
+    def __new__(cls, word):
+        number = super().__new__(cls, RIGHT_SETTINGS["junction_named"](word))
+        number.word = word
+        return number
+
+    def __format__(self, form):
+        return self.word
+
+
+def show_by(found):
+    """The changes that show another record of a junction, or bytes of a CP, than the current."""
+    def command(call, file, word, *form):
+        octets, junction = call.files.get(file, b""), program.junction_named(word)
+        here = settings.at(settings.read(octets) or [], junction)
+        if here is None:
+            FORMS["show"](call, file, word, *form)
+        elif form:
+            call.write(found(here))
+        else:
+            call.write_lines(describe.description(program.read_file(found(here))[1]))
+    return settings_by(show=command)
+
+
+def new_over(call, file):
+    """A file that is there is made anew."""
+    program.save(call.files, file, settings.EMPTY_FILE)
+    call.say(f"{file} made, with no junction")
+
+
+def new_over_empty(call, file):
+    """An empty file that is there is made anew."""
+    (new_over if call.files.get(file) == b"" else FORMS["new"])(call, file)
+
+
+def new_of_nothing(call, file):
+    """A new file has no byte."""
+    FORMS["new"](call, file)
+    call.files[file] = b""
+
+
+def temporary_left(files, name, octets):
+    """The temporary file is copied and not renamed."""
+    RIGHT_SETTINGS["save"](files, name, octets)
+    files[f"{name}.tmp"] = octets
+
+
+def temporary_in_the_way(files, name, octets):
+    """A temporary file that is there is not written over."""
+    if f"{name}.tmp" in files:
+        raise program.Failed(f"cannot write {name}.tmp: it is there", f"{name} is as it was")
+    RIGHT_SETTINGS["save"](files, name, octets)
+
+
+def rows_by(change):
+    """The changes that list other rows, made from the right ones."""
+    return {"program.rows_in": lambda *args: change(RIGHT_SETTINGS["rows_in"](*args))}
+
+
+def rows_like(change):
+    """The changes that write another line of a junction, made from its row."""
+    return settings_saying("row_line", lambda line, row: change(line, row))
+
+
+def sized(line, sizes):
+    """A line of the table with other sizes."""
+    return line[:23] + "".join(f"{size:5}" for size in sizes) + line[53:]
+
+
+def list_said(call, file):
+    """The table is said and not written."""
+    held = bytearray()
+    FORMS["list"](program.Call(call.files, call.input, held, bytearray()), file)
+    for line in held.decode().splitlines():
+        call.say(line)
+    call.say(program.list_sentence(program.rows_in(file, call.files[file])))
+
+
+def list_counted_first(call, file):
+    """The junctions are counted before the table."""
+    rows = program.rows_in(file, program.settings_in(call.files, file))
+    call.say(program.list_sentence(rows))
+    call.write_lines([program.TABLE_HEAD, *map(program.row_line, rows)])
+
+
+def list_without_head(call, file):
+    """A file with no junction has no table."""
+    if call.files.get(file) == settings.EMPTY_FILE:
+        call.say("0 junctions, 0 with a previous setting")
+    else:
+        FORMS["list"](call, file)
+
+
+def keeping(change):
+    """The changes that leave other settings of a junction after a put, by those before and now."""
+    def after_put(junctions, junction, octets):
+        right, before = RIGHT_FILES["after_put"](junctions, junction, octets), settings.at(
+            junctions, junction)
+        here = settings.at(right, junction)
+        return settings.replaced(right, change(here, before)) if before else right
+    return {"settings.after_put": after_put}
+
+
+def exchanged(change):
+    """The changes that leave other settings of a junction after a going back, made from both."""
+    return {"settings.after_back": lambda junctions, junction: settings.replaced(
+        junctions, change(settings.at(junctions, junction)))}
+
+
+def cps_written_anew(junctions, junction, octets):
+    """A put writes the CPs of all settings, without their ignored bits."""
+    def anew(one):
+        return None if one is None else cases_cp.plain(program.read_file(one)[1])
+    return [one._replace(current=anew(one.current), previous=anew(one.previous))
+            for one in RIGHT_FILES["after_put"](junctions, junction, octets)]
+
+
+def put_as_read(call, file, word, cp_name):
+    """The bytes of the CP file are put as they stand."""
+    octets = call.files.get(cp_name, b"")
+    with patch("settings.cp_octets", lambda record: octets):
+        FORMS["put"](call, file, word, cp_name)
+
+
+def without_rule(rule):
+    """The changes that do not look at a rule of settings files."""
+    return {"settings.RULES": tuple(each for each in settings.RULES if each != rule)}
+
+
+def junctions_at_most(most):
+    """The changes that let a put make so many junctions."""
+    def put(file, junction, record, out):
+        there = settings.read(file) or []
+        if len(there) >= most and settings.at(there, junction) is None:
+            return Refusal(24), 0, out
+        return RIGHT_FILES["put"](file, junction, record, out)
+    return {"settings.put": put}
+
+
+def full_for_all(file, junction, record, out):
+    """A put to a junction that is there is refused too where there are 40."""
+    if len(settings.read(file) or []) == 40:
+        return Refusal(24), 0, out
+    return RIGHT_FILES["put"](file, junction, record, out)
+
+
+def forms_in_small_letters(call, file, form, *words):
+    """The words after FILE in small letters alone."""
+    RIGHT_SETTINGS["with_settings"](call, file, form if form.islower() else "x", *words)
+
+
+WRONG_SETTINGS_PROGRAMS = {
+    "settings: the previous rate as the current one": rows_like(
+        lambda line, row: RIGHT_SETTINGS["row_line"](row._replace(
+            current=row.current if row.previous is None else row.previous))),
+    "settings: the current rate as the previous one": rows_like(
+        lambda line, row: line if row.previous is None else RIGHT_SETTINGS["row_line"](
+            row._replace(previous=row.current))),
+    "settings: sizes of interval 0": rows_like(
+        lambda line, row: sized(line, 6 * records.sizes_of(row.current)[:1])),
+    "settings: sizes of masks": rows_like(lambda line, row: sized(
+        line, [mask_of(row.current, m).bit_count() for m in range(6)])),
+    "settings: sizes of the previous setting": rows_like(lambda line, row: sized(
+        line, records.sizes_of(row.previous or row.current))),
+    "settings: no sizes at cleardown": rows_like(
+        lambda line, row: line if row.current.drn else sized(line, [0] * 6)),
+    "settings: rows falling": rows_by(lambda rows: rows[::-1]),
+    "settings: rows by the low byte": rows_by(lambda rows: sorted(
+        rows, key=lambda row: (row.junction % 256, row.junction))),
+    "settings: rows by the digits": rows_by(lambda rows: sorted(
+        rows, key=lambda row: str(row.junction))),
+    "settings: a row for each setting": rows_by(lambda rows: [
+        each for row in rows for each in (row, row._replace(current=row.previous, previous=None))
+        if each.current]),
+    "settings: 39 rows": rows_by(lambda rows: rows[:39]),
+    "settings: no head": settings_by(list=list_without_head),
+    "settings: another head": {"program.TABLE_HEAD": program.TABLE_HEAD.replace("rate ", "kbit/s")},
+    "settings: a row filled with spaces": rows_like(lambda line, row: f"{line:68}"),
+    "settings: junctions to the left": rows_like(lambda line, row: f"{row.junction:<8}{line[8:]}"),
+    "settings: narrow columns": rows_like(lambda line, row: line.replace("    ", "   ")),
+    "settings: nothing for none": rows_like(lambda line, row: line.replace("  none", "")),
+    "settings: the table said": settings_by(list=list_said),
+    "settings: counted before the table": settings_by(list=list_counted_first),
+    "settings: settings counted": settings_saying("list_sentence", lambda told, rows: re.sub(
+        r"^\d+", str(sum(1 + (row.previous is not None) for row in rows)), told)),
+    "settings: one junction in the plural": settings_saying(
+        "list_sentence", lambda told, rows: told.replace("1 junction,", "1 junctions,")),
+    "settings: previous ones not counted": settings_saying(
+        "list_sentence", lambda told, rows: told.split(",")[0]),
+    "settings: previous ones of all": settings_saying("list_sentence", lambda told, rows: (
+        f"{told.split(',')[0]}, {len(rows)} with a previous setting")),
+    "settings: whole kbit/s": {"program.rate_words": lambda record: re.sub(
+        " [12]/3", "", describe.rate_words(record))},
+    "settings: a rate at cleardown": {"program.rate_words": lambda record:
+                                      f"{describe.rate(record)} kbit/s"},
+    "settings: a first setting with a previous one": {
+        "program.put_sentence": lambda junction, record, before:
+        RIGHT_SETTINGS["put_sentence"](junction, record, before or EMPTY)},
+    "settings: every setting a first one": {
+        "program.put_sentence": lambda junction, record, before:
+        RIGHT_SETTINGS["put_sentence"](junction, record, None)},
+    "settings: put tells the rates exchanged": {
+        "program.put_sentence": lambda junction, record, before: RIGHT_SETTINGS["put_sentence"](
+            junction, before or record, record if before else None)},
+    "settings: back tells the rates exchanged": {
+        "program.back_sentence": lambda junction, current, previous:
+        RIGHT_SETTINGS["back_sentence"](junction, previous, current)},
+    "settings: back tells one rate": settings_saying(
+        "back_sentence", lambda told, *rest: told.split(",")[0]),
+    "settings: the junction as typed": {"program.junction_named": JunctionTyped},
+    "settings: 23 of show told by back": settings_saying(
+        "settings_refusal", lambda told, *rest: told.replace("previous setting", "setting")),
+    "settings: 23 of back told by show": settings_saying("settings_refusal", lambda told, *rest: (
+        told.replace("no setting", "no previous setting"))),
+    "settings: 23 of show told by back of a junction not there": settings_failing(
+        lambda told, file: [one.replace("no previous setting for junction 8",
+                                        "no setting for junction 8") for one in told], "back"),
+    "settings: 41 told": settings_saying("settings_refusal", lambda told, *rest: told.replace(
+        "has 40", "has 41")),
+    "settings: settings told for junctions": settings_saying(
+        "settings_refusal", lambda told, *rest: told.replace("has 40", "has 80")),
+    "settings: 24 without the junction": settings_saying(
+        "settings_refusal", lambda told, *rest: re.sub(", so junction .* put", "", told)),
+    "settings: 22 told of a CP": settings_saying("settings_refusal", lambda told, *rest: (
+        told.replace(", or a CP in it is refused", ""))),
+    "settings: as it was not told": settings_failing(lambda told, file: told[:1], "put", "back"),
+    "settings: as it was not told by put": settings_failing(lambda told, file: [
+        one for one in told if "as it was" not in one], "put"),
+    "settings: as it was not told by back": settings_failing(lambda told, file: told[:1]
+                                                             if "refusal" in told[0] else told,
+                                                             "back"),
+    "settings: as it was not told at 22": settings_failing(unsaid_after(22), "put", "back"),
+    "settings: as it was not told at 23": settings_failing(unsaid_after(23), "back"),
+    "settings: as it was not told at 24": settings_failing(unsaid_after(24), "put"),
+    "settings: as it was not told by new": settings_failing(lambda told, file: [
+        told[0].replace("; it is as it was", "")], "new"),
+    "settings: as it was not told where it cannot be written": settings_failing(
+        lambda told, file: told[:1], "new"),
+    "settings: as it was told by show": settings_failing(lambda told, file: [
+        *told, f"{file} is as it was"] if "(refusal" in told[0] else told, "show"),
+    "settings: as it was told by list": settings_failing(lambda told, file: [
+        *told, f"{file} is as it was"] if "(refusal" in told[0] else told, "list"),
+    "settings: as it was told of a CP that is refused": settings_failing(lambda told, file: [
+        *told, f"{file} is as it was"] if len(told) == 1 and "(refusal" in told[0] else told,
+        "put"),
+    "settings: the temporary file told": {"program.as_it_was": lambda name:
+                                          f"{program.shown(name)}.tmp is as it was"},
+    "settings: FILE told for the temporary file": settings_failing(
+        lambda told, file: [told[0].replace(".tmp", ""), *told[1:]], "new"),
+    "settings: emptied where 24": refused_changing("put", "(refusal 24)", b""),
+    "settings: made anew where 24": refused_changing("put", "(refusal 24)", settings.EMPTY_FILE),
+    "settings: made anew where 22": refused_changing("put", "(refusal 22)", settings.EMPTY_FILE),
+    "settings: emptied where 22 of back": refused_changing("back", "(refusal 22)", b""),
+    "settings: emptied where 23": refused_changing("back", "(refusal 23)", b""),
+    "settings: emptied where a CP is refused": refused_changing("put", "(refusal 11)", b""),
+    "settings: emptied where a CP is not there": refused_changing("put", "cannot open", b""),
+    "settings: put not written": {"program.save": lambda files, name, octets: RIGHT_SETTINGS[
+        "save"](files, name, files.get(name, octets))},
+    "settings: written and not cut": {"settings.written": lambda made, out: (
+        None, len(made) + 1, made + bytes(out[len(made):]))},
+    "settings: the temporary file left": {"program.save": temporary_left},
+    "settings: a temporary file in the way": {"program.save": temporary_in_the_way},
+    "settings: the temporary file opened before all else": settings_looking(
+        "back", lambda call, file, *words: call.files.update({f"{file}.tmp": b""})),
+    "settings: junctions of 8 bits": junctions_by(lambda junction: junction % 256),
+    "settings: junctions of 15 bits": junctions_by(lambda junction: junction % 32768),
+    "settings: junctions with a sign": rows_like(
+        lambda line, row: f"{(row.junction ^ 32768) - 32768:8}{line[8:]}"),
+    "settings: JUNCTION modulo 65536": junctions_like("[0-9]{1,18}"),
+    "settings: JUNCTION at most 65535": junctions_like("[0-9]{1,18}",
+                                                       lambda number: min(number, 65535)),
+    "settings: JUNCTION of 19 digits": {"program.junction_named": lambda word: RIGHT_SETTINGS[
+        "junction_named"](word[1:] if len(word) == 19 else word)},
+    "settings: JUNCTION of 5 digits": {"program.junction_named": lambda word: RIGHT_SETTINGS[
+        "junction_named"](word if len(word) < 6 else "x")},
+    "settings: JUNCTION below 65535": junctions_like("[0-9]{1,18}", lambda number: number
+                                                     if number < 65535 else program.law_named("")),
+    "settings: JUNCTION told as a number": {"program.junction_named": numbers_in_sentence},
+    "settings: new over a file": settings_by(new=new_over),
+    "settings: new over an empty file": settings_by(new=new_over_empty),
+    "settings: a new file without a byte": settings_by(new=new_of_nothing),
+    "settings: the previous setting shown": show_by(lambda here: here.previous or here.current),
+    "settings: the CP shown with its ignored bits": show_by(lambda here: here.current),
+    "settings: put keeps the older one": keeping(lambda here, before: here._replace(
+        previous=before.previous or before.current)),
+    "settings: put keeps none": keeping(lambda here, before: here._replace(previous=None)),
+    "settings: put over the previous one": keeping(lambda here, before: settings.Junction(
+        here.number, before.current, here.current)),
+    "settings: the same CP put twice kept once": keeping(
+        lambda here, before: before if here.current == before.current else here),
+    "settings: back keeps no setting": exchanged(lambda here: here._replace(
+        current=here.previous, previous=None)),
+    "settings: back leaves two alike": exchanged(lambda here: here._replace(current=here.previous)),
+    "settings: back once alone": exchanged(lambda here: here),
+    "settings: CPs written anew": {"settings.after_put": cps_written_anew},
+    "settings: the CP file put as it stands": settings_by(put=put_as_read),
+    "settings: an empty file with no junction": {"settings.read": lambda file: RIGHT_FILES["read"](
+        file or settings.EMPTY_FILE)},
+    "settings: no file with no junction": {"settings.read": lambda file: RIGHT_FILES["read"](
+        file if file != settings.EMPTY_FILE else b"")},
+    "settings: a 41st junction put": {"settings.VERSION_1": settings.VERSION_1._replace(
+        most_junctions=41), "settings.VERSIONS": (settings.VERSION_1._replace(
+            most_junctions=41),)},
+    "settings: no 40th junction put": junctions_at_most(39),
+    "settings: 40 junctions and none changed": {"settings.put": full_for_all},
+    "settings: a put makes the file": settings_by(put=put_making),
+    "settings: a file that is not there has no junction": {
+        "program.octets_in": lambda files, name, wanted: RIGHT_SETTINGS["octets_in"](
+            {name: settings.EMPTY_FILE} | files if name.endswith("set") else files, name, wanted)},
+    "settings: new not told of": {"program.octets_in": lambda files, name, wanted: RIGHT_SETTINGS[
+        "octets_in"](files, name, program.CP_WANTED)},
+    "settings: control characters shown": settings_failing(
+        lambda told, file: [one.replace("bad?", "bad\t") for one in told], "new"),
+    "settings: FILE before CPFILE": settings_looking("put", file_before_cp),
+    "settings: 22 before CPFILE": settings_looking("put", rules_before_cp),
+    "settings: CPFILE before JUNCTION": settings_looking(
+        "put", lambda call, file, word, cp_name: program.cp_in(call.files, cp_name)),
+    "settings: FILE before JUNCTION": settings_looking("show", file_before_junction),
+    "settings: FILE before JUNCTION of back": settings_looking("back", file_before_junction),
+    "settings: JUNCTION before the word cp": settings_looking(
+        "show", lambda call, file, word, *form: program.junction_named(word)),
+    "settings: FILE before its words": {"program.COMMANDS": commands_with(
+        settings=file_before_words)},
+    "settings: any last word of show": settings_by(show=lambda call, file, word, *form: FORMS[
+        "show"](call, file, word, *(["cp"] if form else []))),
+    "settings: in small letters alone": {"program.COMMANDS": commands_with(
+        settings=forms_in_small_letters)},
+    "settings: new with two words": settings_taking("new", 0, 1),
+    "settings: list with two words": settings_taking("list", 0, 1),
+    "settings: list with three words": settings_taking("list", 0, 2),
+    "settings: back with two words": settings_taking("back", 1, 2),
+    "settings: five words": {"program.COMMANDS": program.COMMANDS | {
+        "settings": (program.with_settings, 2, 5)}},
+    "settings: not there": {"program.COMMANDS": {
+        name: command for name, command in program.COMMANDS.items() if name != "settings"}},
+    "version 6": {"program.VERSION": "v91 6"},
+    **{f"settings: {rule.__name__} not looked at": without_rule(rule)
+       for rule in settings.RULES if rule != settings.previous_after_current},
+}
+
+
 def first_differing(changes, wanted):
     """The line, from 1, at which a wrong program's run first differs; 0 where it does not.
 
@@ -5367,12 +6759,17 @@ def first_differing(changes, wanted):
 
 
 def wrong_programs():
-    """Every wrong program differs from the stored run. A frame that is made again is remembered."""
+    """Every wrong program differs from the stored run.
+
+    A frame that is made again is remembered, and a CP of a settings file that is read again.
+    """
     wanted = vectors.stored("v91/stdout").splitlines()
-    lists = (WRONG_PROGRAMS, WRONG_CHANNEL_PROGRAMS, WRONG_START_PROGRAMS, WRONG_FLIP_PROGRAMS)
+    lists = (WRONG_PROGRAMS, WRONG_CHANNEL_PROGRAMS, WRONG_START_PROGRAMS, WRONG_FLIP_PROGRAMS,
+             WRONG_SETTINGS_PROGRAMS)
     wrong = {name: changes for some in lists for name, changes in some.items()}
     remembered = {f"program.{name}": lru_cache(maxsize=None)(getattr(frames, name))
                   for name in ("send_frame", "receive_frame")}
+    remembered["settings.cp_reading"] = lru_cache(maxsize=None)(settings.cp_reading)
     with changed(remembered):
         found = {name: first_differing(changes, wanted) for name, changes in wrong.items()}
     if "-v" in sys.argv:
@@ -5391,8 +6788,11 @@ GROUPS = (table_1, examples, values, steps, cp_round_trips, demand_3, distrust, 
           stored_starts,
           other_dils, default_dil, wrong_codecs, plan_sizes, plan_least, plan_answers, plan_ranges,
           plan_largest, stored_plans, wrong_planners, flip_costs, flip_runs, flip_needs,
-          stored_flips, wrong_flips, program_round_trips, program_doubts, program_sequences,
+          stored_flips, wrong_flips, settings_values, settings_round_trips, settings_rules,
+          settings_operations, settings_refusals, stored_settings, wrong_settings,
+          program_round_trips, program_doubts, program_sequences,
           program_starts, program_sentences, start_sentences, plan_sentences, flip_sentences,
+          settings_sentences, settings_tables, settings_runs,
           pictures, stored_run, wrong_programs)
 
 

@@ -7,6 +7,7 @@ from frames import FRESH, data_bytes, interval_masks, ucodes_for
 from program import frame_count, octets_for, reception
 from record import EMPTY, EXAMPLE, FULL_MASK, make
 from samples import Draw, a_record
+from settings import Junction, write
 from start import FOUND_FROM, from_zero
 from table1 import A, MU, octet_of
 
@@ -41,6 +42,7 @@ EIGHTS = make(0, 4, 0, [0] * 6, [ucodes((0, 7))])
 
 FEW = make(0, 5, 0, [0] * 6, [ucodes((0, 5))])
 HOLLOW = make(0, 5, 0, [0, 0, 1, 0, 0, 0], [FULL_MASK])
+THIRD = make(0, 2, 1, [0] * 6, [ucodes((0, 6))])
 BAD_INDEX = make(0, 1, 0, [0, 1, 6, 0, 0, 0], [ucodes((0, 5))])
 
 
@@ -49,7 +51,7 @@ def good_cps():
     return {
         "example.cp": plain(EXAMPLE),
         "noisy.cp": noisy(Draw(32), EXAMPLE),
-        "third.cp": plain(make(0, 2, 1, [0] * 6, [ucodes((0, 6))])),
+        "third.cp": plain(THIRD),
         "cleardown.cp": plain(EMPTY),
         "seven.cp": plain(SEVEN),
         "lacking.cp": plain(LACKING),
@@ -242,10 +244,82 @@ def lines_with_start():
     }
 
 
+# Settings files
+
+# Two junctions with three settings, whose entries begin at 0, 43 and 86; the trailer is at 129.
+PAIR = write([Junction(7, plain(EXAMPLE), plain(THIRD)), Junction(512, plain(EMPTY), None)])
+
+# The most junctions there can be.
+MOST = 40
+
+
+def examples_for(count):
+    """A file of so many junctions, each with the example as its one setting."""
+    return write([Junction(1001 * n, plain(EXAMPLE), None) for n in range(1, count + 1)])
+
+
+def kept():
+    """A file with ignored bits set in its CPs, and a cleardown with points."""
+    draw = Draw(35)
+    idle = make(0, 0, 1, [0] * 6, [ucodes((0, 9))])
+    return write([Junction(3, noisy(draw, idle), None),
+                  Junction(258, noisy(draw, EXAMPLE), noisy(draw, THIRD)),
+                  Junction(40000, noisy(draw, SEVEN), plain(EMPTY))])
+
+
+def forty():
+    """The longest file there can be, with a current setting of each rate; a previous one of some.
+
+    It has 80 settings whose CPs are of the largest length.
+    """
+    draw = Draw(36)
+    return write([Junction(1001 * n, *(plain(a_record(draw, drn, 5))
+                                       for drn in (1 + n % 28, 5 * n % 29)))
+                  for n in range(1, MOST + 1)])
+
+
+def good_settings():
+    """Settings files that are read."""
+    return {"kept.set": kept(), "nearly.set": examples_for(MOST - 1), "forty.set": forty()}
+
+
+def broken_entries():
+    """Settings files with an entry that breaks a rule or whose CP is refused."""
+    return {
+        "self.set": altered(PAIR, 84, 43),
+        "first.set": altered(PAIR, 41, 43),
+        "kind.set": altered(PAIR, 45, 2),
+        "twice.set": altered(PAIR, 45, 0),
+        "lone.set": altered(PAIR, 88, 1),
+        "falling.set": PAIR[:86] + b"\5\0" + PAIR[88:],
+        "over.set": altered(PAIR, 89, 255),
+        "crc.set": altered(PAIR, 67, PAIR[67] ^ 1),
+        "few.set": write([Junction(7, plain(EXAMPLE), plain(FEW))]),
+        "hollow.set": write([Junction(7, plain(HOLLOW), None)]),
+        "short.set": write([Junction(7, plain(EXAMPLE)[:36], None)]),
+    }
+
+
+def broken_settings():
+    """Settings files that are refused, each for one thing."""
+    return {
+        **broken_entries(),
+        "tail.set": PAIR[-3:],
+        "place.set": b"\0\1\0\1",
+        "gap.set": PAIR[:129] + b"\0" + PAIR[129:],
+        "count.set": altered(PAIR, 129, 2),
+        "last.set": altered(PAIR, 130, 43),
+        "swapped.set": PAIR[:130] + PAIR[131:129:-1] + PAIR[132:],
+        "version.set": altered(PAIR, 132, 2),
+        "many.set": examples_for(MOST + 1),
+    }
+
+
 def data_files():
     """The files that the script reads: {name: bytes}."""
     return {**good_cps(), **refused_cps(), **messages(), "joined": joined(),
-            "channel": channel_data(), **lines_of_octets(), **lines_with_start()}
+            "channel": channel_data(), **lines_of_octets(), **lines_with_start(),
+            **good_settings(), **broken_settings()}
 
 
 # The script
@@ -774,4 +848,260 @@ flip example.cp mu
 flip mu
 flip nowhere.cp < nowhere
 flips example.cp
+
+# Settings of junctions: a file made anew, and settings put in no order
+settings depot.set new
+linear a < depot.set
+settings depot.set list
+settings depot.set put 512 example.cp
+settings depot.set list
+settings depot.set put 7 full.cp
+settings depot.set put 65535 gaps.cp
+settings depot.set put 0 cleardown.cp
+settings depot.set list
+settings depot.set show 0
+settings depot.set show 7
+settings depot.set show 512
+settings depot.set show 65535
+
+# The setting before is kept, the one before that is not
+settings depot.set put 7 noisy.cp
+settings depot.set put 512 upper.cp
+settings depot.set put 512 lacking.cp
+settings depot.set list
+settings depot.set show 512
+settings depot.set put 0 seven.cp
+settings depot.set put 263 eights.cp
+settings depot.set put 263 eights.cp
+
+# Going back once and twice, and a setting put after that
+settings depot.set back 512
+settings depot.set list
+settings depot.set show 512
+settings depot.set back 512
+settings depot.set show 512
+settings depot.set back 0
+settings depot.set back 7
+settings depot.set list
+linear a < depot.set
+settings depot.set put 512 third.cp
+settings depot.set back 512
+settings depot.set put 512 cleardown.cp
+settings depot.set back 512
+settings depot.set back 512
+settings depot.set list
+
+# The current setting as a CP file
+settings depot.set show 7 cp > made.cp
+cp made.cp
+send made.cp mu < hello > octets
+receive full.cp mu 20 < octets
+settings depot.set show 65535 CP > made.cp
+cp made.cp
+settings depot.set show 512 cp > made.cp
+cp made.cp
+settings depot.set put 65535 made.cp
+
+# Ignored bits of a CP stay where other settings are put, and are not in a CP that is shown
+settings kept.set list
+settings kept.set show 3
+settings kept.set show 258
+settings kept.set show 40000
+settings kept.set show 258 cp > made.cp
+linear a < made.cp
+send full.cp mu < kept.set > octets
+receive full.cp mu 236 < octets > own.set
+settings own.set put 300 cleardown.cp
+settings own.set put 3 noisy.cp
+settings own.set back 40000
+settings own.set list
+linear a < own.set
+settings kept.set list
+
+# 40 junctions, the most there can be
+settings forty.set list
+settings forty.set put 9 example.cp
+settings forty.set put 65535 crc.cp
+settings forty.set back 9
+settings forty.set list
+send full.cp a < forty.set > octets
+receive full.cp a 10244 < octets > county.set
+settings county.set put 20020 full.cp
+settings county.set put 1001 example.cp
+settings county.set put 1002 example.cp
+settings county.set back 40040
+settings county.set back 00001
+settings county.set list
+send full.cp a < nearly.set > octets
+receive full.cp a 1681 < octets > borough.set
+settings borough.set put 65535 example.cp
+settings borough.set put 65534 third.cp
+settings borough.set show 65534
+settings borough.set put 39039 third.cp
+settings borough.set list
+
+# Capitals, several spaces, numbers with zeros before them, an input and an output
+SETTINGS depot.set LIST
+Settings depot.set Put 000007 third.cp
+  settings   depot.set   BACK   000000000000000007
+settings depot.set Show 00512 < hello
+settings town.set NEW > text
+linear a < text
+settings town.set put 000000000000065535 eights.cp > text
+linear a < text
+settings town.set list > text
+send full.cp mu exact < text > octets
+settings town.set list
+
+# The temporary file, there before or not, is gone after a change
+demo > town.set.tmp
+settings town.set put 65535 eights.cp
+cp town.set.tmp
+settings town.set list
+demo > city.set.tmp
+settings city.set new
+cp city.set.tmp
+settings city.set list
+demo > city.set.tmp
+settings city.set back 1
+cp city.set.tmp
+
+# Junctions and previous settings that are not there
+settings depot.set show 8
+settings depot.set show 65534
+settings depot.set show 768
+settings depot.set show 8 cp > made.cp
+cp made.cp
+settings depot.set back 8
+settings town.set back 255
+settings borough.set back 1001
+settings depot.set list
+settings town.set list
+
+# Files that break the rules, or with a CP that is refused: they are as they were
+settings nothing list
+settings nothing put 7 example.cp
+settings nothing show 7
+linear a < nothing
+settings hello list
+settings hello put 7 example.cp
+settings hello back 7
+settings hello show 7 cp > made.cp
+cp made.cp
+linear a < hello
+settings example.cp list
+settings self.set list
+settings first.set list
+settings kind.set list
+settings twice.set list
+settings lone.set list
+settings falling.set list
+settings over.set list
+settings crc.set show 512
+settings crc.set put 7 example.cp
+settings crc.set back 7
+settings few.set show 7
+settings few.set put 8 example.cp
+settings few.set back 7
+settings hollow.set show 7
+settings hollow.set put 7 example.cp
+settings short.set list
+settings short.set show 7 cp > made.cp
+settings tail.set list
+settings tail.set put 7 example.cp
+linear a < tail.set
+settings place.set list
+settings place.set put 7 example.cp
+settings place.set back 7
+linear a < place.set
+settings gap.set list
+settings count.set list
+settings last.set list
+settings swapped.set list
+settings version.set list
+settings many.set list
+settings many.set put 1001 third.cp
+settings many.set put 9 third.cp
+linear mu < slips > text
+settings text list
+settings text put 7 example.cp
+settings text back 7
+
+# New where a file is there, files that are not there, and directories
+settings depot.set new
+settings depot.set list
+settings nothing new
+linear a < nothing
+settings hello new
+settings missing.set list
+settings missing.set put 7 example.cp
+settings missing.set list
+settings missing.set back 7
+settings missing.set show 7
+settings missing.set show 7 cp > made.cp
+settings bad\tname.set list
+settings bad\x7fname.set back 7
+settings nowhere/depot.set new
+settings nowhere/bad\tname.set new
+settings nowhere/depot.set list
+settings nowhere/depot.set put 7 example.cp
+settings . list
+settings . show 7
+
+# CP files that are refused or not there
+settings depot.set put 7 crc.cp
+settings depot.set put 7 hollow.cp
+settings depot.set put 7 rate.cp
+settings depot.set put 8 few.cp
+settings depot.set put 8 hello
+settings depot.set put 7 missing.cp
+settings depot.set put 8 .
+settings depot.set list
+
+# Wrong words of settings: their number, then the word after FILE, the last word, JUNCTION, CPFILE
+settings
+settings depot.set
+settings new
+settings depot.set wrong
+settings missing.set w\tong 7
+settings missing.set wrong x missing.cp
+settings missing.set lists
+settings missing.set 7 show
+settings depot.set wrong 7 missing.cp more
+settings missing.set new 7
+settings depot.set list 7
+settings depot.set LIST 7 example.cp
+settings depot.set put
+settings depot.set put x
+settings depot.set Put 7
+settings depot.set put 7 example.cp third.cp
+settings depot.set back
+settings depot.set back 7 7
+settings depot.set show
+settings depot.set show 7 cp cp
+settings missing.set show x svg
+settings depot.set show 7 c\tp
+settings depot.set show 7 cps
+settings depot.set show 7 example.cp
+settings missing.set show x
+settings missing.set show 65536 cp
+settings missing.set put x missing.cp
+settings missing.set put 7 missing.cp
+settings missing.set put 7 crc.cp
+settings hello put 7 missing.cp
+settings many.set put 7 few.cp
+settings depot.set show 65536
+settings depot.set put 65536 example.cp
+settings depot.set put 65543 example.cp
+settings depot.set back 00065536
+settings depot.set put -1 example.cp
+settings depot.set show +7
+settings depot.set show 7.0
+settings missing.set back x
+settings depot.set show 7\t
+settings depot.set put 0000000000000000007 example.cp
+settings depot.set show 0000000000000000007
+settings depot.set show 999999999999999999
+settings depot.set list
+setting depot.set list
 """

@@ -10,6 +10,7 @@ from pathlib import Path
 import cases_cp
 import cases_flip
 import cases_frames
+import cases_settings
 import cases_start
 import dil
 import plan
@@ -105,7 +106,8 @@ def texts():
             "vectors_plan/stdout": plan_lines()}
     for name, cases in (("vectors_cp", cases_cp.cases()), ("vectors_frames", cases_frames.cases()),
                         ("vectors_start", cases_start.cases()),
-                        ("vectors_flip", cases_flip.cases())):
+                        ("vectors_flip", cases_flip.cases()),
+                        ("vectors_settings", cases_settings.cases())):
         made[f"{name}/stdin"] = hex_lines(cases)
         made[f"{name}/stdout"] = hex_lines(map(answer, cases))
     return made

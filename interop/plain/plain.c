@@ -102,6 +102,11 @@ static unsigned cp_length(unsigned g)
     return (289 + 136 * g + 5) / 6 * 6;
 }
 
+static unsigned cp_bytes(unsigned g)
+{
+    return (cp_length(g) + 7) / 8;
+}
+
 static unsigned get_field(const uint8_t *cp, unsigned at, unsigned width)
 {
     return (unsigned)(get_number(cp + at / 8, 3) >> at % 8) & ((1u << width) - 1);
@@ -130,12 +135,9 @@ static unsigned crc(const uint8_t *cp, unsigned g)
     return reg;
 }
 
-uint32_t plain_read_cp(const uint8_t *cp, size_t cp_len, size_t bit_count,
-                       uint8_t *record, size_t record_len)
+/* Takes a CP apart into the fields of a record. Refusals 1 to 10, 25 and 11, in this order. */
+static uint32_t get_cp(struct record *r, const uint8_t *cp, size_t cp_len, size_t bit_count)
 {
-    struct record r = { 0 };
-    unsigned g;
-
     if (bit_count / 8 + (bit_count % 8 != 0) > cp_len)
         return 1;
     if (bit_count < 294)
@@ -143,8 +145,8 @@ uint32_t plain_read_cp(const uint8_t *cp, size_t cp_len, size_t bit_count,
     if (get_field(cp, 0, 16) != 0xFFFF || !get_field(cp, 16, 1))
         return 3;
     for (int i = 0; i < 6; i++)
-        r.index[i] = get_field(cp, index_at[i], 4);
-    g = largest_index(&r);
+        r->index[i] = get_field(cp, index_at[i], 4);
+    unsigned g = largest_index(r);
     if (g > 5)
         return 4;
     if (bit_count != cp_length(g))
@@ -156,19 +158,43 @@ uint32_t plain_read_cp(const uint8_t *cp, size_t cp_len, size_t bit_count,
         return 7;
     if (!get_field(cp, 19, 1) || get_field(cp, 30, 3) || get_field(cp, 128, 1))
         return 8;
-    r.granted = get_field(cp, 18, 1);
-    r.drn = get_field(cp, 20, 5);
-    r.acknowledge = get_field(cp, 33, 1);
+    r->granted = get_field(cp, 18, 1);
+    r->drn = get_field(cp, 20, 5);
+    r->acknowledge = get_field(cp, 33, 1);
+    memset(r->half, 0, sizeof r->half);
     for (unsigned m = 0; m <= g; m++)
         for (unsigned c = 0; c < 8; c++)
-            r.half[2 * m + c / 4] |= (uint64_t)get_field(cp, 137 + 136 * m + 17 * c, 16) << 16 * (c % 4);
-    uint32_t refusal = record_refusal(&r);
+            r->half[2 * m + c / 4] |= (uint64_t)get_field(cp, 137 + 136 * m + 17 * c, 16) << 16 * (c % 4);
+    return record_refusal(r);
+}
+
+uint32_t plain_read_cp(const uint8_t *cp, size_t cp_len, size_t bit_count,
+                       uint8_t *record, size_t record_len)
+{
+    struct record r;
+    uint32_t refusal = get_cp(&r, cp, cp_len, bit_count);
     if (refusal)
         return refusal;
     if (record_len < RECORD_BYTES)
         return 17;
     put_record(&r, record);
     return 0;
+}
+
+/* Writes the CP of a record that is not refused, of masks 0 to g. */
+static void put_cp(const struct record *r, unsigned g, uint8_t *cp)
+{
+    memset(cp, 0, cp_bytes(g));
+    put_field(cp, 0, 0xFFFF);
+    put_field(cp, 16, 1);
+    put_field(cp, 18, r->granted | 1u << 1 | r->drn << 2);
+    put_field(cp, 33, r->acknowledge);
+    for (int i = 0; i < 6; i++)
+        put_field(cp, index_at[i], r->index[i]);
+    for (unsigned m = 0; m <= g; m++)
+        for (unsigned c = 0; c < 8; c++)
+            put_field(cp, 137 + 136 * m + 17 * c, r->half[2 * m + c / 4] >> 16 * (c % 4) & 0xFFFF);
+    put_field(cp, 273 + 136 * g, crc(cp, g));
 }
 
 uint32_t plain_write_cp(const uint8_t *record, size_t record_len, uint8_t *cp, size_t cp_len)
@@ -181,21 +207,11 @@ uint32_t plain_write_cp(const uint8_t *record, size_t record_len, uint8_t *cp, s
     uint32_t refusal = record_refusal(&r);
     if (refusal)
         return refusal;
-    unsigned g = largest_index(&r), count = cp_length(g), bytes = (count + 7) / 8;
-    if (cp_len < bytes)
+    unsigned g = largest_index(&r);
+    if (cp_len < cp_bytes(g))
         return 17;
-    memset(cp, 0, bytes);
-    put_field(cp, 0, 0xFFFF);
-    put_field(cp, 16, 1);
-    put_field(cp, 18, r.granted | 1u << 1 | r.drn << 2);
-    put_field(cp, 33, r.acknowledge);
-    for (int i = 0; i < 6; i++)
-        put_field(cp, index_at[i], r.index[i]);
-    for (unsigned m = 0; m <= g; m++)
-        for (unsigned c = 0; c < 8; c++)
-            put_field(cp, 137 + 136 * m + 17 * c, r.half[2 * m + c / 4] >> 16 * (c % 4) & 0xFFFF);
-    put_field(cp, 273 + 136 * g, crc(cp, g));
-    return count;
+    put_cp(&r, g, cp);
+    return cp_length(g);
 }
 
 /* Line state. `past` is the history in the order of time: bit 0 is the oldest, bit 22 the latest. */
@@ -660,4 +676,185 @@ uint32_t plain_plan(uint32_t k, bool a_law, uint32_t spacing, uint64_t ceiling, 
     put_number(plan + 8, 8, half[1]);
     put_number(plan + 16, 8, sum);
     return 0;
+}
+
+/* The settings file. An entry is a head (junction number, kind, CP length), the CP, and the start of the entry before
+   it; the first points to itself. What else is fixed, a version fixes. */
+
+enum { CURRENT, PREVIOUS, HEAD_BYTES = 4 };
+
+static const struct version {
+    uint8_t number;
+    int start_bytes, count_bytes;
+    unsigned junctions;
+} version_1 = { 1, 2, 1, 40 };
+
+/* What a walk over a file finds: where its trailer begins and what is counted; and of one junction where its entries
+   begin, or would, the start of the entry before that, and the bytes of its current and previous ones, 0 for none. */
+struct walk {
+    const struct version *version;
+    size_t end, first, before, own[2];
+    unsigned entries, junctions;
+};
+
+static size_t trailer_bytes(const struct version *v)
+{
+    return (size_t)(v->count_bytes + v->start_bytes + 1);
+}
+
+static size_t entry_bytes(const struct version *v, unsigned bytes_of_cp)
+{
+    return HEAD_BYTES + bytes_of_cp + (size_t)v->start_bytes;
+}
+
+/* The length in bits of a CP of so many bytes; 0 where none has so many. */
+static unsigned bits_in(unsigned bytes)
+{
+    unsigned g = 0;
+    while (g < 5 && cp_bytes(g) < bytes)
+        g++;
+    return cp_bytes(g) == bytes ? cp_length(g) : 0;
+}
+
+/* Walks over a file from its beginning; false where it breaks the rules or a CP is refused. The junction number and
+   the kind make one rank, which rises; that of a previous setting comes next to its current one's. */
+static bool walk(struct walk *w, const uint8_t *file, size_t file_len, unsigned junction)
+{
+    const struct version *v = &version_1;
+    struct record r;
+    size_t at = 0, last = 0, size;
+    long latest = -1;
+
+    *w = (struct walk){ .version = v };
+    if (file_len < trailer_bytes(v) || file[file_len - 1] != v->number)
+        return false;
+    w->end = file_len - trailer_bytes(v);
+    for (; at < w->end; last = at, at += size) {
+        const uint8_t *entry = file + at;
+        size = w->end - at < HEAD_BYTES ? SIZE_MAX : entry_bytes(v, entry[3]);
+        if (w->end - at < size)
+            return false;
+        unsigned number = (unsigned)get_number(entry, 2), kind = entry[2];
+        long rank = 2 * (long)number + kind;
+        if (kind > PREVIOUS || (kind == CURRENT ? rank <= latest : rank != latest + 1))
+            return false;
+        latest = rank;
+        w->entries++;
+        w->junctions += kind == CURRENT;
+        if (w->junctions > v->junctions || get_number(entry + size - v->start_bytes, v->start_bytes) != last)
+            return false;
+        if (get_cp(&r, entry + HEAD_BYTES, entry[3], bits_in(entry[3])) != 0)
+            return false;
+        if (number < junction) {
+            w->first = at + size;
+            w->before = at;
+        } else if (number == junction)
+            w->own[kind] = size;
+    }
+    return get_number(file + w->end, v->count_bytes) == w->entries
+           && get_number(file + w->end + v->count_bytes, v->start_bytes) == last;
+}
+
+/* A file that is written: the place of the next entry and the start of the last one. */
+struct writer {
+    const struct version *version;
+    uint8_t *out;
+    size_t at, last;
+};
+
+/* Ends an entry whose head and CP are there. */
+static void end_entry(struct writer *to)
+{
+    const struct version *v = to->version;
+    size_t size = entry_bytes(v, to->out[to->at + 3]);
+    put_number(to->out + to->at + size - v->start_bytes, v->start_bytes, to->last);
+    to->last = to->at;
+    to->at += size;
+}
+
+static void copy_entry(struct writer *to, const uint8_t *entry, uint8_t kind)
+{
+    memcpy(to->out + to->at, entry, HEAD_BYTES + (size_t)entry[3]);
+    to->out[to->at + 2] = kind;
+    end_entry(to);
+}
+
+/* Begins with what stands below the junction. */
+static struct writer copy_below(const struct walk *w, const uint8_t *file, uint8_t *out)
+{
+    memcpy(out, file, w->first);
+    return (struct writer){ w->version, out, w->first, w->before };
+}
+
+/* Goes on with what stands above the junction, and ends with the trailer; the file's length. */
+static uint32_t copy_above(struct writer *to, const struct walk *w, const uint8_t *file, unsigned entries)
+{
+    const struct version *v = w->version;
+    for (size_t at = w->first + w->own[CURRENT] + w->own[PREVIOUS]; at < w->end; at += entry_bytes(v, file[at + 3]))
+        copy_entry(to, file + at, file[at + 2]);
+    uint8_t *trailer = to->out + to->at;
+    put_number(trailer, v->count_bytes, entries);
+    put_number(trailer + v->count_bytes, v->start_bytes, to->last);
+    trailer[v->count_bytes + v->start_bytes] = v->number;
+    return (uint32_t)(to->at + trailer_bytes(v));
+}
+
+uint32_t plain_put(const uint8_t *file, size_t file_len, uint16_t junction, const uint8_t *record, size_t record_len,
+                   uint8_t *out, size_t out_len)
+{
+    struct record r;
+    struct walk w;
+
+    if (record_len < RECORD_BYTES)
+        return 16;
+    get_record(&r, record);
+    uint32_t refusal = record_refusal(&r);
+    if (refusal)
+        return refusal;
+    if (!walk(&w, file, file_len, junction))
+        return 22;
+    if (w.own[CURRENT] == 0 && w.junctions == w.version->junctions)
+        return 24;
+    unsigned g = largest_index(&r);
+    if (out_len < file_len - w.own[PREVIOUS] + entry_bytes(w.version, cp_bytes(g)))
+        return 17;
+
+    struct writer to = copy_below(&w, file, out);
+    uint8_t *entry = out + w.first;
+    put_number(entry, 2, junction);
+    entry[2] = CURRENT;
+    entry[3] = (uint8_t)cp_bytes(g);
+    put_cp(&r, g, entry + HEAD_BYTES);
+    end_entry(&to);
+    if (w.own[CURRENT] > 0)
+        copy_entry(&to, file + w.first, PREVIOUS);
+    return copy_above(&to, &w, file, w.entries + 1 - (w.own[PREVIOUS] > 0));
+}
+
+uint32_t plain_go_back(const uint8_t *file, size_t file_len, uint16_t junction, uint8_t *out, size_t out_len)
+{
+    struct walk w;
+
+    if (!walk(&w, file, file_len, junction))
+        return 22;
+    if (w.own[PREVIOUS] == 0)
+        return 23;
+    if (out_len < file_len)
+        return 17;
+    struct writer to = copy_below(&w, file, out);
+    copy_entry(&to, file + w.first + w.own[CURRENT], CURRENT);
+    copy_entry(&to, file + w.first, PREVIOUS);
+    return copy_above(&to, &w, file, w.entries);
+}
+
+uint32_t plain_look_up(const uint8_t *file, size_t file_len, uint16_t junction, uint8_t *record, size_t record_len)
+{
+    struct walk w;
+
+    if (!walk(&w, file, file_len, junction))
+        return 22;
+    if (w.own[CURRENT] == 0)
+        return 23;
+    const uint8_t *entry = file + w.first;
+    return plain_read_cp(entry + HEAD_BYTES, entry[3], bits_in(entry[3]), record, record_len);
 }

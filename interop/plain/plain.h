@@ -23,5 +23,9 @@ uint32_t plain_send_cp(const uint8_t *record, size_t record_len, bool a_law, uin
                        uint8_t *state, size_t state_len);
 uint32_t plain_find_state(const uint8_t *octets, size_t octets_len, uint8_t *state, size_t state_len);
 uint32_t plain_plan(uint32_t k, bool a_law, uint32_t spacing, uint64_t ceiling, uint8_t *plan, size_t plan_len);
+uint32_t plain_put(const uint8_t *file, size_t file_len, uint16_t junction, const uint8_t *record, size_t record_len,
+                   uint8_t *out, size_t out_len);
+uint32_t plain_go_back(const uint8_t *file, size_t file_len, uint16_t junction, uint8_t *out, size_t out_len);
+uint32_t plain_look_up(const uint8_t *file, size_t file_len, uint16_t junction, uint8_t *record, size_t record_len);
 
 #endif

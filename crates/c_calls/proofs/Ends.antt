@@ -1,21 +1,27 @@
 -- An outcome in one number, and the end of a call of frames. Assumes nothing.
 use mathlib.Core.Path.{_≡_, refl, sym, ap, _∙_}
-use Prim.Native.Nat.{ℕ}
-use mathlib.Core.Bool.{Bool, true, false, true≢false, not, _&&_, and-eq-true-iff}
-use mathlib.Core.List.{List}
+use mathlib.Core.Logic.{_⊎_, inl, inr}
+use Prim.Native.Nat.{ℕ, _≤_, _<_}
+use mathlib.Core.Bool.{Bool, true, false, true≢false, not, _&&_, _||_, and-eq-true-iff}
+use mathlib.Core.List.{List, [], _∷_, _++_}
+use native.Mathlib.Nat.{eq-zero-or-pos}
 use native.Mathlib.Omega.{arith}
-use borrow.Author.Tests.{eqb-true, eq-eqb, not-true}
-use lib.Dec.{eqb}
-use Rattle.standard.specs.First.{first}
+use borrow.Author.Tests.{ltb-false, eqb-true, eq-eqb, not-true}
+use lib.Dec.{T, eqb, ltb}
+use lib.ListN.{length}
+use Rattle.standard.specs.First.{Answer, bare, Test, test, first}
 use Rattle.standard.specs.Refusals.{outcomeAnswer}
 use Rattle.standard.specs.Calls.{accepted, over}
 use Rattle.standard.specs.declared.LineState.{LineState}
 use Rattle.standard.specs.declared.Outcome.{Outcome}
 use Rattle.standard.specs.declared.Outcome.the-variants.{Done, Refused}
+use Rattle.standard.proofs.Lists.{or-none}
+use Rattle.standard.proofs.First.{numbered, none-first, first-append, first-left}
 use Rattle.standard.proofs.Stages.{refused-not}
 use Rattle.codes.specs.Coded.{coded}
-use Rattle.states.specs.StateBytes.{stateBytes}
-use Rattle.c_calls.specs.Answered.{answered, stateLeft, thenShort}
+use Rattle.forms.specs.RecordBytes.{recordLength}
+use Rattle.states.specs.StateBytes.{stateLength, stateBytes}
+use Rattle.c_calls.specs.Answered.{answered, frameAnswer, stateLeft, thenShort}
 
 -- ---- an outcome in one number: 0 where nothing is refused, and only there
 
@@ -33,6 +39,27 @@ module _ (o : Outcome) (k : ℕ) (ek : k ≡ coded (outcomeAnswer o)) where
 pub coded-zero : (o : Outcome) → accepted (outcomeAnswer o) ≡ true → coded (outcomeAnswer o) ≡ 0
 coded-zero Done e = refl
 coded-zero (Refused x) e = absurd (true≢false (sym e ∙ refused-not (Refused x) x _ refl refl))
+
+-- a list of tests that refuses
+refused-first : (ts : List Test) → accepted (first ts) ≡ false → 0 < first ts .number
+refused-first ts e = go (eq-zero-or-pos (first ts .number))
+  where
+    go : (first ts .number ≡ 0) ⊎ (0 < first ts .number) → 0 < first ts .number
+    go (inl z) = absurd (true≢false (sym (eq-eqb (first ts .number) 0 z) ∙ e))
+    go (inr p) = p
+
+-- ---- an entry's tests with 17 behind them, for a buffer to be written
+
+module _ (ts : List Test) (t : T (numbered ts)) (short : Bool) (o : Outcome) (eo : outcomeAnswer o ≡ first ts) (k : ℕ)
+    (ek : k ≡ coded (outcomeAnswer o)) where
+  abbrev then17 : Answer
+  then17 = first (ts ++ (test 17 short ∷ []))
+
+  pub then-refused : (k ≡ 0 → ⊥) → then17 ≡ outcomeAnswer o
+  then-refused p = first-left ts _ (refused-first ts (ap accepted (sym eo) ∙ code-refused o k ek p)) ∙ sym eo
+
+  pub then-own : k ≡ 0 → then17 ≡ first (test 17 short ∷ [])
+  then-own z = first-append ts _ (none-first ts t (eqb-true _ 0 (ap accepted (sym eo) ∙ code-done o k ek z)))
 
 -- ---- the end of a call
 
@@ -80,3 +107,24 @@ pub short-not : (o : Outcome) → accepted (thenShort true (outcomeAnswer o)) �
 unfolding thenShort first
 short-not Done = refl
 short-not (Refused x) = let e = refused-not (Refused x) x _ refl refl in rw e e
+
+-- ---- a short record or line state, and neither
+
+module _ (rec state : List ℕ) (a : Answer) where
+  pub frame-short : (ltb (length rec) recordLength || ltb (length state) stateLength) ≡ true → frameAnswer rec state a ≡ bare 16
+  unfolding frameAnswer first
+  frame-short = go (ltb (length rec) recordLength) (ltb (length state) stateLength) refl refl
+    where
+      go : (x y : Bool) → ltb (length rec) recordLength ≡ x → ltb (length state) stateLength ≡ y → (x || y) ≡ true
+          → frameAnswer rec state a ≡ bare 16
+      go true y e f t = rw e
+      go false true e f t = rw (e, f)
+      go false false e f t = absurd (true≢false (sym t))
+
+  pub frame-long : (ltb (length rec) recordLength || ltb (length state) stateLength) ≡ false → frameAnswer rec state a ≡ a
+  unfolding frameAnswer first
+  frame-long h = let p = or-none (ltb (length rec) recordLength) (ltb (length state) stateLength) h in rw (p .0, p .1)
+
+-- where neither is short, both are long enough
+pub both-long : (rec state : ℕ) → (ltb rec recordLength || ltb state stateLength) ≡ false → (recordLength ≤ rec) × (stateLength ≤ state)
+both-long rec state h = let p = or-none _ _ h in (ltb-false _ _ (p .0), ltb-false _ _ (p .1))

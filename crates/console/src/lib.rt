@@ -69,11 +69,27 @@ fn say(e: Ends, template: &[u8], values: &[u64], name: &[u8]) {
     put(e.said, &text, at);
 }
 
+// Writes bytes to the output and returns whether they all went out; says so where they did not.
+pub fn write(e: Ends, bytes: &[u8]) -> bool {
+    if io::write_all(e.output, bytes) {
+        return true;
+    }
+    fail_system(e, os::errno(), b"cannot write standard output: ", b"")
+}
+
 // Says a sentence with two numbers.
 pub fn tell(e: Ends, template: &[u8], a: u64, b: u64) -> bool
     ensures { λ x. ⌜ x ≡ true ⌝ }
 {
     say(e, template, &[a, b], b"");
+    true
+}
+
+// The same with a name and no number.
+pub fn tell_name(e: Ends, template: &[u8], name: &[u8]) -> bool
+    ensures { λ x. ⌜ x ≡ true ⌝ }
+{
+    say(e, template, &[0], name);
     true
 }
 
@@ -107,6 +123,20 @@ pub fn fail_choice(e: Ends, templates: &[u8], k: usize, values: &[u64], name: &[
 {
     say(e, words::nth_part(templates, b'|', k), values, name);
     false
+}
+
+// Whether a command has so many words; says so where it has not.
+pub fn has(e: Ends, words: &[u8], least: usize, most: usize) -> bool {
+    let count = words::part_count(words, 0);
+    let right = (least <= count) & (count <= most);
+    if right {
+        return true;
+    }
+    fail(
+        e,
+        b"wrong number of words; v91 help says what each command takes",
+        0,
+    )
 }
 
 // The choice of `add_reason` for an error of the system: ENOENT, EBADF, EACCES, ENOTDIR, EISDIR, EINVAL, EFBIG, ENOSPC, EPIPE,

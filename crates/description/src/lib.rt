@@ -15,31 +15,46 @@ use words::add_numbers;
 ghost use Prim.Native.Nat.{_<_, _≤_};
 ghost use lib.ListN.{length};
 
-// Adds the rate as V.91 Table 2 prints it, drn, K and D, or that this is a cleardown.
+// The choice of `add_rate_words` for a drn and the thirds of its rate.
+fn rate_choice(drn: u8, third: u64) -> usize {
+    if drn == 0 {
+        return 3;
+    }
+    third as usize
+}
+
+// Adds the rate as V.91 Table 2 prints it, or that this is a cleardown.
+pub fn add_rate_words(text: &mut [u8], at: usize, r: Record) -> usize
+    requires { ⌜ at ≤ length (now text) ⌝ }
+    ensures { λ end. ⌜ end ≤ length (now (text .entry)) ⌝ }
+{
+    let d = d_of(r) as u64;
+    add_choice(
+        text,
+        at,
+        b"# kbit/s|# 1/3 kbit/s|# 2/3 kbit/s|cleardown|",
+        rate_choice(r.drn, 4 * d % 3),
+        4 * d / 3,
+        0,
+        0,
+    )
+}
+
+// Adds the rate, drn, K and D, or that this is a cleardown.
 pub(crate) fn add_rate(text: &mut [u8], at: usize, r: Record) -> usize
     requires { ⌜ at ≤ length (now text) ⌝ }
     ensures { λ end. ⌜ end ≤ length (now (text .entry)) ⌝ }
 {
     let drn = r.drn as u64;
-    if drn == 0 {
-        return add_numbers(text, at, b"cleardown (drn 0): no data is sent\n", 0, 0, 0);
-    }
-    let d = d_of(r) as u64;
     let k = k_of(r) as u64;
-    let third = 4 * d % 3;
-    let at = add_choice(
+    let d = d_of(r) as u64;
+    let at = add_choice(text, at, b"rate ||", (drn == 0) as usize, 0, 0, 0);
+    let at = add_rate_words(text, at, r);
+    add_choice(
         text,
         at,
-        b"rate #|rate # 1/3|rate # 2/3|",
-        third as usize,
-        4 * d / 3,
-        0,
-        0,
-    );
-    add_numbers(
-        text,
-        at,
-        b" kbit/s, drn #: a frame has # data bits (D), # of them in R (K)\n",
+        b", drn #: a frame has # data bits (D), # of them in R (K)\n| (drn 0): no data is sent\n|",
+        (drn == 0) as usize,
         drn,
         d,
         k,
@@ -59,7 +74,7 @@ fn mask_at(r: Record, m: usize) -> Mask
 }
 
 // How many points mask m has; none where there is no such mask.
-fn points_in(r: Record, m: u8) -> u64 {
+pub fn points_in(r: Record, m: u8) -> u64 {
     if 5 < m {
         return 0;
     }

@@ -3,3 +3,4 @@ pub mod Counts
 pub mod Channel
 pub mod Start
 pub mod Flip
+pub mod Settings

@@ -10,6 +10,7 @@ use crate::value_before;
 use standard::Law;
 use words::add_name;
 use words::add_numbers;
+use words::add_right;
 ghost use Prim.Native.Nat.{_≤_};
 ghost use lib.ListN.{length};
 
@@ -22,37 +23,6 @@ fn column_of(value: u32, top: u32) -> u64 {
         return 0;
     }
     (2 * LAST_COLUMN * (value as u64) + top as u64) / (2 * (top as u64))
-}
-
-// How many digits a number has, 5 at most.
-fn digits_of(n: u64) -> usize {
-    if n < 10 {
-        return 1;
-    }
-    if n < 100 {
-        return 2;
-    }
-    if n < 1000 {
-        return 3;
-    }
-    if n < 10_000 {
-        return 4;
-    }
-    5
-}
-
-// Adds a number at the right of so many characters.
-fn add_right(text: &mut [u8], at: usize, width: usize, number: u64) -> usize
-    requires { ⌜ at ≤ length (now text) ⌝ }
-    ensures { λ end. ⌜ end ≤ length (now (text .entry)) ⌝ }
-{
-    let mut end = at;
-    let mut count = digits_of(number);
-    while count < width {
-        end = add_numbers(text, end, b" ", 0, 0, 0);
-        count += 1;
-    }
-    add_numbers(text, end, b"#", number, 0, 0)
 }
 
 // What is drawn in a row: a line from column `from` to column `to`, where `mark` stands; at `from` the point before, where there is one.

@@ -5,10 +5,11 @@ use Prim.Native.Nat.{ℕ, zero, suc, _+_, _*_, _-_, _≤_, _<_, max}
 use mathlib.Core.Bool.{Bool, true, false, cond, _&&_, _||_, Bool·beq, true≢false}
 use mathlib.Core.List.{List, [], _∷_, _++_, map, append-assoc, append-nil}
 use native.Mathlib.Nat.{add-zero, zero-add, add-suc, suc-add, zero-mul, not-suc-le-zero, suc-ne-zero, le-of-suc-le-suc, eq-or-lt-of-le}
+use native.Mathlib.Decide.{decLt}
 use native.Mathlib.Numerals.{add-one}
 use native.Mathlib.Omega.{arith}
 use lib.Dec.{T}
-use lib.ListN.{length, getD, take, drop, length-append, length-drop, take-append-drop, List·getD-append}
+use lib.ListN.{length, getD, take, drop, length-append, length-drop, take-append-drop, List·getD-append, List·getD-eq-default}
 use lib.Seq.{ext-getD, getD-append-add, length-take-le, drop-drop, take-at, drop-at}
 use Rattle.standard.specs.Lists.{listFrom, any, largest, lowestFrom, listWhere, parts, lastOr, joined, each, after}
 
@@ -59,6 +60,14 @@ module _ {X : Type 0} (f : ℕ → X) where
 
 pub listFrom-ext : {X : Type 0} (f g : ℕ → X) (n : ℕ) → ((k : ℕ) → k < n → f k ≡ g k) → listFrom f 0 n ≡ listFrom g 0 n
 listFrom-ext f g n h = listFrom-is g (f 0) n (listFrom f 0 n) (length-listFrom f 0 n) (λ k l. getD-list f (f 0) n k l ∙ h k l)
+
+-- listed numbers below a bound, and 0 past their end
+pub list-below : (f : ℕ → ℕ) (m : ℕ) → 0 < m → (n h : ℕ) → ((k : ℕ) → f k < m) → getD (listFrom f 0 n) h 0 < m
+list-below f m p n h b = go (decLt h n)
+  where
+    go : Dec (h < n) → getD (listFrom f 0 n) h 0 < m
+    go (yes l) = rw (getD-list f 0 n h l) (b h)
+    go (no l) = rw (List·getD-eq-default (listFrom f 0 n) 0 {n = h} (omega (arith, length-listFrom f 0 n))) p
 
 -- ---- any
 

@@ -16,7 +16,7 @@ use Rattle.standard.specs.declared.Refusal.the-variants.{CountExceedsByt
 use Rattle.standard.specs.declared.Refusal.the-variants.{StartBitSet, CrcMismatch, FixedBitWrong, DrnTooLarge, GrantedBelowFullRate}
 use Rattle.standard.specs.declared.Refusal.the-variants.{ProductTooSmall, MaskAboveIndices, FramesAtCleardown, HistoryTooLarge}
 use Rattle.standard.specs.declared.Refusal.the-variants.{TooManyFrames, InputTooShort, OutputTooShort, DoubtfulTooLarge}
-use Rattle.standard.specs.declared.Refusal.the-variants.{PlaceTooLarge}
+use Rattle.standard.specs.declared.Refusal.the-variants.{PlaceTooLarge, FileBroken, SettingMissing, TooManyJunctions}
 use Rattle.standard.specs.declared.Refusal.the-variants.{IntervalEmpty, RateOrSpacingOutside, NoMask, SumExceedsCeiling}
 use Rattle.standard.proofs.First.{numbered, None, none-first, first-append, first-left}
 
@@ -41,6 +41,9 @@ refused-positive InputTooShort = lit< tt
 refused-positive OutputTooShort = lit< tt
 refused-positive DoubtfulTooLarge = lit< tt
 refused-positive PlaceTooLarge = lit< tt
+refused-positive FileBroken = lit< tt
+refused-positive SettingMissing = lit< tt
+refused-positive TooManyJunctions = lit< tt
 refused-positive (IntervalEmpty i) = lit< tt
 refused-positive RateOrSpacingOutside = lit< tt
 refused-positive NoMask = lit< tt

@@ -1,8 +1,9 @@
--- The nine entries: a call of each as what is lent, the refusal's number (0 for none) with its value, and what is left: 'A refusal
+-- The twelve entries: a call of each as what is lent, the refusal's number (0 for none) with its value, and what is left: 'A refusal
 -- carries its number, and buffers and state are unchanged.' Assumes nothing.
 use Prim.Native.Nat.{ℕ, _*_, _-_}
 use mathlib.Core.Bool.{Bool, false, cond, _&&_, _||_}
 use mathlib.Core.List.{List, [], _∷_, _++_, map}
+use mathlib.Core.Option.{Option, none, some}
 use lib.Dec.{eqb}
 use lib.IntN.{ℤ}
 use lib.ListN.{length, getD, take, drop, replicate}
@@ -17,6 +18,7 @@ use Rattle.standard.specs.Plan.{pointsFor, sumOf, lowestMask}
 use Rattle.standard.specs.Frame.{callBits, sendFrames, sendAfter, receiveFrames, receiveMarks, receiveAfter, receiveSaid}
 use Rattle.standard.specs.Start.{cpAndEnd, octetsFor, leftBy, foundFrom, foundIn}
 use Rattle.standard.specs.Refusals.{shorter, readTests, writeTests, frameTests, sendCpTests, planTests}
+use Rattle.standard.specs.Settings.{settingsIn, shown, putFile, backFile, putTests, backTests, lookTests}
 use Rattle.standard.specs.declared.Law.{Law}
 use Rattle.standard.specs.declared.LineState.{LineState}
 use Rattle.standard.specs.declared.Record.{Record}
@@ -260,3 +262,63 @@ oneMask k halves =
       index = replicate 6 0;
       mask = getD halves 0 0 ∷ getD halves 1 0 ∷ replicate 10 0;
     }
+
+-- ---- the settings file. Each call is handed a file s; a put and a going back write another into `out`
+
+-- 'both return the new file's length in bytes': what a call that is answered a and writes t returns, and leaves in `out`
+abbrev pub writtenLength : Answer → List ℕ → ℕ
+writtenLength a t = cond (accepted a) (length t) 0
+
+abbrev pub writtenOut : Answer → List ℕ → List ℕ → List ℕ
+writtenOut a t out = cond (accepted a) (over t out) out
+
+-- 'Putting a setting'
+pub record PutCall : Type 0 where
+  pub junction : ℕ
+  pub cp : Record
+  pub out : List ℕ
+
+abbrev pub putCall : ℕ → Record → List ℕ → PutCall
+putCall j r out = record { junction = j; cp = r; out = out }
+
+unfoldable pub putRefusal : List ℕ → PutCall → Answer
+putRefusal s c = first (putTests s (c .junction) (c .cp) (length (c .out)))
+
+-- the file written
+abbrev pub putWrites : List ℕ → PutCall → List ℕ
+putWrites s c = putFile s (c .junction) (cpBytes (c .cp))
+
+unfoldable pub putLength : List ℕ → PutCall → ℕ
+putLength s c = writtenLength (putRefusal s c) (putWrites s c)
+
+unfoldable pub putOut : List ℕ → PutCall → List ℕ
+putOut s c = writtenOut (putRefusal s c) (putWrites s c) (c .out)
+
+-- 'Going back'
+pub record BackCall : Type 0 where
+  pub junction : ℕ
+  pub out : List ℕ
+
+abbrev pub backCall : ℕ → List ℕ → BackCall
+backCall j out = record { junction = j; out = out }
+
+unfoldable pub backRefusal : List ℕ → BackCall → Answer
+backRefusal s c = first (backTests s (c .junction) (length (c .out)))
+
+unfoldable pub backLength : List ℕ → BackCall → ℕ
+backLength s c = writtenLength (backRefusal s c) (backFile s (c .junction))
+
+unfoldable pub backOut : List ℕ → BackCall → List ℕ
+backOut s c = writtenOut (backRefusal s c) (backFile s (c .junction)) (c .out)
+
+-- 'a look-up shows the setting': of junction j
+unfoldable pub lookRefusal : List ℕ → ℕ → Answer
+lookRefusal s j = first (lookTests s j)
+
+-- the record of a CP, where there is one
+unfoldable pub recordOf : Option (List ℕ) → Record
+recordOf none = noRecord
+recordOf (some cp) = recordIn (bitAt cp)
+
+unfoldable pub lookRecord : List ℕ → ℕ → Record
+lookRecord s j = cond (accepted (lookRefusal s j)) (recordOf (shown j (settingsIn s) .current)) noRecord

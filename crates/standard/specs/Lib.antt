@@ -16,4 +16,5 @@ pub mod Frame
 pub mod Start
 pub mod Flip
 pub mod Refusals
+pub mod Settings
 pub mod Calls

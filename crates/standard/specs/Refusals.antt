@@ -1,5 +1,5 @@
 -- Document 01, 'When the codec declines', and document 02, A.1, A.2, A.3, A.8 and A.10: the tests 1 to 19 and 25 to 28, each under a name,
--- and the lists of them in the papers' order. Assumes nothing.
+-- and the lists of them in the papers' order. 22 asks the CP reader's tests, so 22 to 24 stand in Settings. Assumes nothing.
 use Prim.Native.Nat.{ℕ, _+_, _*_, _-_, _^_}
 use mathlib.Core.Bool.{Bool, not, _&&_, _||_}
 use mathlib.Core.List.{List, [], _∷_, _++_}
@@ -23,7 +23,7 @@ use Rattle.standard.specs.declared.Refusal.the-variants.{CountExceedsByt
 use Rattle.standard.specs.declared.Refusal.the-variants.{StartBitSet, CrcMismatch, FixedBitWrong, DrnTooLarge, GrantedBelowFullRate}
 use Rattle.standard.specs.declared.Refusal.the-variants.{ProductTooSmall, MaskAboveIndices, FramesAtCleardown, HistoryTooLarge}
 use Rattle.standard.specs.declared.Refusal.the-variants.{TooManyFrames, InputTooShort, OutputTooShort, DoubtfulTooLarge}
-use Rattle.standard.specs.declared.Refusal.the-variants.{PlaceTooLarge}
+use Rattle.standard.specs.declared.Refusal.the-variants.{PlaceTooLarge, FileBroken, SettingMissing, TooManyJunctions}
 use Rattle.standard.specs.declared.Refusal.the-variants.{IntervalEmpty, RateOrSpacingOutside, NoMask, SumExceedsCeiling}
 
 -- 'A refusal carries its number'; 25 carries the interval too
@@ -47,6 +47,9 @@ refusalAnswer InputTooShort = bare 16
 refusalAnswer OutputTooShort = bare 17
 refusalAnswer DoubtfulTooLarge = bare 18
 refusalAnswer PlaceTooLarge = bare 19
+refusalAnswer FileBroken = bare 22
+refusalAnswer SettingMissing = bare 23
+refusalAnswer TooManyJunctions = bare 24
 refusalAnswer (IntervalEmpty i) = valued 25 i
 refusalAnswer RateOrSpacingOutside = bare 26
 refusalAnswer NoMask = bare 27

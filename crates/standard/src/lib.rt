@@ -27,7 +27,7 @@ pub struct LineState {
     pub lost: bool,
 }
 
-// The refusals 1 to 19, 25 with the interval whose mask is empty, and 26 to 28.
+// The refusals 1 to 19, 22 to 24, 25 with the interval whose mask is empty, and 26 to 28.
 pub enum Refusal {
     CountExceedsBytes,
     CountTooSmall,
@@ -48,6 +48,9 @@ pub enum Refusal {
     OutputTooShort,
     DoubtfulTooLarge,
     PlaceTooLarge,
+    FileBroken,
+    SettingMissing,
+    TooManyJunctions,
     IntervalEmpty(u8),
     RateOrSpacingOutside,
     NoMask,
@@ -113,4 +116,18 @@ pub struct Planned {
     pub points: u32,
     pub mask: [u64; 2],
     pub sum: u64,
+}
+
+// A version of the settings file: the bytes of a start, the bytes of the count, the most junctions, and its version byte.
+pub struct Version {
+    pub start: usize,
+    pub count: usize,
+    pub most: usize,
+    pub byte: u8,
+}
+
+// The answer of a put and of a going back: the length of the file written. It is 0 where the outcome is a refusal.
+pub struct FileWritten {
+    pub outcome: Outcome,
+    pub length: usize,
 }

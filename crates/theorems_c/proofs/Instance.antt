@@ -36,7 +36,8 @@ use Rattle.forms.specs.RecordBytes.{recordByte, recordBytes, recordAt}
 use Rattle.states.specs.StateBytes.{stateByte, stateBytes, lineBytes, stateAt}
 use Rattle.forms.specs.HeardBytes.{saidKind, saidBits, heardByte, heardBytes}
 use Rattle.c_calls.specs.Answered.{answered, frameAnswer, stateLeft, thenShort}
-use Rattle.v91_c.specs.Interface.{v91Send, v91Receive, v91SendCp, v91FindState}
+use Rattle.frames_c.specs.Interface.{v91Send, v91Receive}
+use Rattle.cp_c.specs.Interface.{v91SendCp, v91FindState}
 use Rattle.theorems_c.specs.Runs.{CSend, cSent, cMessage, cSendChoices, CSendsWith, CReceive, cReceiveLeft, cOctetsRead, cHandedOver}
 use Rattle.theorems_c.specs.Runs.{cMarksGiven, cReceiveChoices, cFramesRead, cStateBefore, CReceivesWith, CRun, cSaidAt, cSaidGiven}
 use Rattle.theorems_c.specs.Start.{CSendCp, CStart}

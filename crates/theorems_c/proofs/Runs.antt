@@ -4,11 +4,10 @@ use mathlib.Core.Path.{_≡_, refl, sym, ap, ap₂, _∙_, subst}
 use Prim.Native.Nat.{ℕ, _*_, _/_, _%_, _^_, _<_}
 use mathlib.Core.Bool.{Bool, true, false, true≢false, cond, _||_}
 use mathlib.Core.List.{List, [], _∷_, _++_, map, map-append}
-use native.Mathlib.Decide.{decLt}
 use native.Mathlib.Omega.{arith}
 use borrow.Author.Tests.{eqb-true, eq-eqb, leb-false}
 use lib.Dec.{eqb, leb, ltb, lit<}
-use lib.ListN.{length, getD, drop, take, List·getD-eq-default}
+use lib.ListN.{length, getD, drop, take}
 use lib.Seq.{take-at}
 use Rattle.standard.specs.Lists.{listFrom, largest, parts, joined, each, after}
 use Rattle.standard.specs.First.{Answer, test, first}
@@ -27,7 +26,7 @@ use Rattle.standard.specs.declared.LineState.{LineState}
 use Rattle.standard.specs.declared.Record.{Record}
 use Rattle.standard.specs.declared.Said.{Said}
 use Rattle.standard.specs.declared.Said.the-variants.{Nothing, Sequence, FrameLost, PatternWrong, CrcWrong}
-use Rattle.standard.proofs.Lists.{length-listFrom, getD-list, after-keeps, of-either}
+use Rattle.standard.proofs.Lists.{length-listFrom, list-below, after-keeps, of-either}
 use Rattle.standard.proofs.Bits.{field-lt, length-bytesOf}
 use Rattle.standard.proofs.Scrambler.{pushAll-lt}
 use Rattle.standard.proofs.Refusals.{passed}
@@ -46,14 +45,14 @@ use Rattle.states.specs.StateBytes.{stateLength, stateBytes, sequenceByte, stat
 use Rattle.forms.specs.HeardBytes.{saidKind, heardByte, heardLength, heardBytes}
 use Rattle.forms.proofs.Back.{state-back, record-back}
 use Rattle.c_calls.specs.Answered.{lawOf, answered, frameAnswer, stateLeft, thenShort}
-use Rattle.v91_c.specs.Interface.{v91ReadCp, AfterSend, v91Send, AfterReceive}
-use Rattle.v91_c.specs.Interface.{v91Receive}
+use Rattle.frames_c.specs.Interface.{AfterSend, v91Send, AfterReceive, v91Receive}
+use Rattle.cp_c.specs.Interface.{v91ReadCp}
 use Rattle.theorems_c.specs.Flip.{CFlipCosts}
 use Rattle.theorems_c.specs.Runs.{CSend, afterSend, cSends, cSendLeft, cMessage, cSent, cSendChoices, CSendsWith, CReceive}
 use Rattle.theorems_c.specs.Runs.{afterReceive, cReceives, cReceiveLeft, cOctetsRead, cHandedOver, cMarksGiven, cReceiveChoices}
 use Rattle.theorems_c.specs.Runs.{cFramesRead, cStateBefore, CReceivesWith, CRun, CRunsDeliver, CMessagesDiffer, CCountsHold, cSaidAt}
 use Rattle.theorems_c.specs.Runs.{spokenIn, cSaidGiven, CSaid, CRecordRead}
-use Rattle.v91_c.proofs.Answers.{frame-short, frame-long}
+use Rattle.c_calls.proofs.Ends.{frame-short, frame-long}
 
 -- ---- two lists of calls: the accepted calls of one, with what each is for the other
 
@@ -444,14 +443,6 @@ c-said r l t receiving w =
     ∙ ap (λ (ys : List Incoming). joined (each (saidIn r l) (receiveNext r l) (stateAt t) ys)) (sym (same-frames t receiving)))
 
 -- ---- the record that v91_read_cp leaves
-
--- listed numbers below a bound, and 0 past their end
-list-below : (f : ℕ → ℕ) (m : ℕ) → 0 < m → (n h : ℕ) → ((k : ℕ) → f k < m) → getD (listFrom f 0 n) h 0 < m
-list-below f m p n h b = go (decLt h n)
-  where
-    go : Dec (h < n) → getD (listFrom f 0 n) h 0 < m
-    go (yes l) = rw (getD-list f 0 n h l) (b h)
-    go (no l) = rw (List·getD-eq-default (listFrom f 0 n) 0 {n = h} (omega (arith, length-listFrom f 0 n))) p
 
 half-small : (f : ℕ → Bool) (g h : ℕ) → halfIn f g h < 2 ^ 64
 unfolding halfIn

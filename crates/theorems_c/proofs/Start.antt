@@ -25,7 +25,7 @@ use Rattle.forms.specs.RecordBytes.{recordAt}
 use Rattle.states.specs.StateBytes.{stateLength, stateAt}
 use Rattle.forms.proofs.Back.{line-back}
 use Rattle.c_calls.specs.Answered.{lawOf, answered, frameAnswer}
-use Rattle.v91_c.specs.Interface.{v91SendCp, v91FindState}
+use Rattle.cp_c.specs.Interface.{v91SendCp, v91FindState}
 use Rattle.theorems_c.specs.Start.{CSendCp, afterSendCp, cSendsCp, cCpSent, CStartDelivers}
 use Rattle.theorems_c.proofs.Runs.{entry-took, c-runs}
 

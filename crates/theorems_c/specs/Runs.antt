@@ -21,7 +21,8 @@ use Rattle.forms.specs.RecordBytes.{recordAt}
 use Rattle.states.specs.StateBytes.{stateAt}
 use Rattle.forms.specs.HeardBytes.{heardLength, heardBytes}
 use Rattle.c_calls.specs.Answered.{lawOf}
-use Rattle.v91_c.specs.Interface.{v91ReadCp, AfterSend, v91Send, AfterReceive, v91Receive}
+use Rattle.frames_c.specs.Interface.{AfterSend, v91Send, AfterReceive, v91Receive}
+use Rattle.cp_c.specs.Interface.{v91ReadCp}
 
 -- ---- calls of v91_send: all that one is lent but the line state, which is the bytes s
 

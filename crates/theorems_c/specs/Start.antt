@@ -11,7 +11,7 @@ use Rattle.standard.specs.declared.Record.{Record}
 use Rattle.theorems.specs.Runs.{Damage}
 use Rattle.theorems_start.specs.Start.{FromTheFirst}
 use Rattle.states.specs.StateBytes.{stateLength, stateAt}
-use Rattle.v91_c.specs.Interface.{AfterSendCp, v91SendCp, v91FindState}
+use Rattle.cp_c.specs.Interface.{AfterSendCp, v91SendCp, v91FindState}
 use Rattle.theorems_c.specs.Runs.{CSend, cMessage, cSendChoices, CReceive, cHandedOver, cMarksGiven, CRun}
 
 -- a call of v91_send_cp: all that it is lent but the line state, which is the bytes s

@@ -2,11 +2,11 @@
 use crate::asked::Named;
 use crate::asked::law_at;
 use crate::cp_file::load_cp;
-use crate::output::write;
 use console::Ends;
 use console::fail_choice;
 use console::fail_system;
 use console::tell;
+use console::write;
 use standard::Law;
 use standard::LineState;
 use standard::Record;

@@ -145,7 +145,7 @@ fn nothing() -> Loaded {
 }
 
 // Reads a CP file. Of a longer file the first 4,096 bytes are read: any length above 122 bytes gets the same refusal.
-fn load_file(e: Ends, name: &[u8]) -> Loaded {
+pub(crate) fn load_file(e: Ends, name: &[u8]) -> Loaded {
     let mut bytes = [0u8; 4096];
     let got = console::fill_from(e, name, &mut bytes);
     if got.error != 0 {

@@ -4,6 +4,7 @@
 mod asked;
 mod begin;
 mod cp_file;
+mod junctions;
 mod output;
 mod planner;
 mod script;
@@ -12,8 +13,9 @@ mod stream;
 use console::Ends;
 use console::fail;
 use console::fail_name;
+use console::has;
 use console::tell;
-use output::write;
+use console::write;
 
 // Says how the program is used.
 fn help(e: Ends) -> bool {
@@ -38,29 +40,21 @@ fn help(e: Ends) -> bool {
   v91 plan K LAW SPACING CEILING        the mask for K that keeps SPACING with the least sum of squares, and a picture of it
   v91 plan K LAW SPACING CEILING svg > FILE, or cp > FILE: the picture as a drawing, or the CP with this mask
   v91 flip CPFILE                       which data bits change where one octet comes with the other sign, for each interval
+  v91 settings FILE new                 a settings file, which keeps the CPs of up to 40 junctions; FILE must not be there yet
+  v91 settings FILE list                a table of its junctions
+  v91 settings FILE put JUNCTION CPFILE the CP as the setting of a junction; the one before is kept
+  v91 settings FILE back JUNCTION       the setting of a junction and the one before it exchanged
+  v91 settings FILE show JUNCTION       the setting of a junction in plain words
+  v91 settings FILE show JUNCTION cp > CPFILE   the setting of a junction as a CP
   v91 demo                              an example: a CP and E_s, 63 bits sent and received, and one octet damaged
   v91 demo cp > FILE                    the CP of the example
   v91 run FILE                          the commands in FILE, one a line, each with its own < FILE and > FILE
   v91 help, v91 --version
 LAW is mu or a (ulaw, alaw). K is 15 to 42, SPACING 1 to 65535, and CEILING the most that the sum may be.
-A CP file has 37, 54, 71, 88, 105 or 122 bytes.
+A CP file has 37, 54, 71, 88, 105 or 122 bytes. JUNCTION is 0 to 65535.
 The word progress after LAW has send, receive and linear show how far they are, as they do where standard error is a terminal.
 The last line on standard error is `v91: ok` or `v91: failed`; bin/v91 ends with status 0 or 1 by it.
 ",
-    )
-}
-
-// Whether a command has so many words; says so where it has not.
-fn has(e: Ends, words: &[u8], least: usize, most: usize) -> bool {
-    let count = words::part_count(words, 0);
-    let right = (least <= count) & (count <= most);
-    if right {
-        return true;
-    }
-    fail(
-        e,
-        b"wrong number of words; v91 help says what each command takes",
-        0,
     )
 }
 
@@ -76,7 +70,7 @@ fn unknown(e: Ends, words: &[u8]) -> bool {
 // The number of the command that the first word names, in the order of `run_command`.
 pub(crate) fn command_of(words: &[u8]) -> usize {
     let names =
-        b"cp\nstart\nsend\nreceive\nlinear\ndil\nplan\nflip\ndemo\nhelp\n--help\n-h\n--version\nrun\n";
+        b"cp\nstart\nsend\nreceive\nlinear\ndil\nplan\nflip\ndemo\nsettings\nhelp\n--help\n-h\n--version\nrun\n";
     words::which(names, b'\n', words::nth_part(words, 0, 0))
 }
 
@@ -92,10 +86,11 @@ pub(crate) fn run_command(e: Ends, words: &[u8], command: usize) -> bool {
         7 => has(e, words, 5, 6) && planner::plan(e, words),
         8 => has(e, words, 2, 2) && output::flip(e, words),
         9 => has(e, words, 1, 2) && output::demo(e, words),
-        10 => help(e),
+        10 => has(e, words, 3, 5) && junctions::settings(e, words),
         11 => help(e),
         12 => help(e),
-        13 => write(e, b"v91 6\n"),
+        13 => help(e),
+        14 => write(e, b"v91 7\n"),
         _ => unknown(e, words),
     }
 }
@@ -106,7 +101,7 @@ fn run_words(e: Ends, words: &[u8]) -> bool {
         return help(e);
     }
     let command = command_of(words);
-    if command == 14 {
+    if command == 15 {
         return has(e, words, 2, 2) && script::run(e, words);
     }
     run_command(e, words, command)

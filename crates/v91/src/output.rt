@@ -1,4 +1,4 @@
-// What the commands write: bytes, a CP in plain words, what a flipped sign costs, the default DIL, the example.
+// What the commands write: a CP in plain words, what a flipped sign costs, the default DIL, the example.
 use crate::asked::Named;
 use crate::asked::law_at;
 use crate::cp_file::load_cp;
@@ -6,8 +6,8 @@ use console::Ends;
 use console::Trouble;
 use console::all_well;
 use console::fail_name;
-use console::fail_system;
 use console::tell;
+use console::write;
 use description::add_example;
 use description::add_flip;
 use description::add_record;
@@ -15,14 +15,6 @@ use description::example_record;
 use dil::DIL_OCTETS;
 use dil::SEGMENT_SYMBOLS;
 use dil::SEGMENTS;
-
-// Writes bytes to the output and returns whether they all went out; says so where they did not.
-pub(crate) fn write(e: Ends, bytes: &[u8]) -> bool {
-    if io::write_all(e.output, bytes) {
-        return true;
-    }
-    fail_system(e, os::errno(), b"cannot write standard output: ", b"")
-}
 
 // Describes the CP file that word 1 names.
 pub(crate) fn cp(e: Ends, words: &[u8]) -> bool {

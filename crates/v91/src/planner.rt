@@ -1,12 +1,12 @@
 // The command plan: what it asks for, what it says where that is refused, and the forms in which a plan is written.
 use crate::asked::Named;
 use crate::asked::law_at;
-use crate::output::write;
 use console::Ends;
 use console::fail;
 use console::fail_choice;
 use console::fail_name;
 use console::tell;
+use console::write;
 use constellation::Mask;
 use picture::Shown;
 use standard::Law;

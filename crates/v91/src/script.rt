@@ -1,13 +1,13 @@
 // The commands of a file, one a line, each with its own `< FILE` and `> FILE`. What they write and say goes to the output, so that a run of
 // them can be kept and compared.
 use crate::command_of;
-use crate::output::write;
 use crate::run_command;
 use console::Ends;
 use console::fail;
 use console::fail_name;
 use console::fail_system;
 use console::tell;
+use console::write;
 ghost use Prim.Native.Nat.{_<_, _≤_};
 ghost use lib.ListN.{length};
 

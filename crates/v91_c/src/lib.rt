@@ -1,21 +1,17 @@
-// The C interface: interop/v91.h declares these functions.
-use c_calls::INPUT_TOO_SHORT;
+// The C interface: interop/v91.h declares these functions. What those of frames, of the CP and of the settings file do is in crates of
+// their own.
 use c_calls::OUTPUT_TOO_SHORT;
-use c_calls::end_call;
-use c_calls::end_heard;
 use c_calls::law_of;
-use c_calls::lent_short;
-use c_calls::unheard;
 use dil::DIL_OCTETS;
-use forms::HEARD_BYTES;
 use forms::PLAN_BYTES;
-use forms::RECORD_BYTES;
-use states::STATE_BYTES;
 ghost use mathlib.Core.Path.{_≡_};
 ghost use Rattle.standard.specs.Calls.{linearCall, linearRefusal, linearSamples};
 ghost use Rattle.codes.specs.Coded.{coded};
 ghost use Rattle.c_calls.specs.Answered.{lawOf};
-ghost use Rattle.v91_c.specs.Interface.{v91ReadCp, v91WriteCp, v91Send, v91Receive, v91SendDil, v91SendCp, v91FindState, v91Plan};
+ghost use Rattle.frames_c.specs.Interface.{v91Send, v91Receive};
+ghost use Rattle.cp_c.specs.Interface.{v91ReadCp, v91WriteCp, v91SendCp, v91FindState};
+ghost use Rattle.settings_c.specs.Interface.{v91Put, v91GoBack, v91LookUp};
+ghost use Rattle.v91_c.specs.Interface.{v91SendDil, v91Plan};
 
 // Each octet's signed linear value into `samples`.
 #[no_mangle]
@@ -31,17 +27,7 @@ pub extern "C" fn v91_linear(a_law: bool, octets: &[u8], samples: &mut [i32]) ->
 pub extern "C" fn v91_write_cp(rec: &[u8], cp: &mut [u8]) -> u32
     ensures { λ r. ⌜ v91WriteCp (now (rec .entry)) (now (cp .entry)) ≡ record { answer = r; cp = now (cp .exit) } ⌝ }
 {
-    if rec.len() < RECORD_BYTES {
-        return INPUT_TOO_SHORT;
-    }
-    let done = cp::write_cp(forms::record_from(rec), cp);
-    let count = done.bit_count as u32;
-    let outcome = done.outcome;
-    let refusal = codes::code_of(outcome);
-    if refusal != 0 {
-        return refusal;
-    }
-    count
+    cp_c::write_cp(rec, cp)
 }
 
 // Reads a CP of `bit_count` bits into a record.
@@ -49,17 +35,7 @@ pub extern "C" fn v91_write_cp(rec: &[u8], cp: &mut [u8]) -> u32
 pub extern "C" fn v91_read_cp(cp: &[u8], bit_count: usize, rec: &mut [u8]) -> u32
     ensures { λ r. ⌜ v91ReadCp (now (cp .entry)) «bit_count» (now (rec .entry)) ≡ record { answer = r; rec = now (rec .exit) } ⌝ }
 {
-    let read = cp::read_cp(cp, bit_count);
-    let outcome = read.outcome;
-    let refusal = codes::code_of(outcome);
-    if refusal != 0 {
-        return refusal;
-    }
-    if rec.len() < RECORD_BYTES {
-        return OUTPUT_TOO_SHORT; // the record is a buffer to be written
-    }
-    forms::record_into(read.record, rec);
-    0
+    cp_c::read_cp(cp, bit_count, rec)
 }
 
 // Sends frames of data bits as octets, from the line state and to the one left. `sequence` is for a control sequence that starts in the
@@ -79,23 +55,7 @@ pub extern "C" fn v91_send(
         (now (state .entry))
         ≡ record { answer = r; octets = now (octets .exit); state = now (state .exit) } ⌝ }
 {
-    if lent_short(rec.len(), state.len()) {
-        return INPUT_TOO_SHORT;
-    }
-    let r = forms::record_from(rec);
-    let line = states::state_from(state);
-    let done = codec::send(
-        r,
-        law_of(a_law),
-        frames,
-        control,
-        sequence,
-        line,
-        bits,
-        octets,
-    );
-    let outcome = done.outcome;
-    end_call(outcome, done.state, frames, state)
+    frames_c::send(rec, a_law, frames, control, sequence, bits, octets, state)
 }
 
 // Receives octets as data bits and a mark for each frame, from the line state and to the one left, and says what became of the control
@@ -122,27 +82,17 @@ pub extern "C" fn v91_receive(
           state = now (state .exit);
         } ⌝ }
 {
-    if lent_short(rec.len(), state.len()) {
-        return INPUT_TOO_SHORT;
-    }
-    let r = forms::record_from(rec);
-    let line = states::state_from(state);
-    if heard.len() < HEARD_BYTES {
-        return unheard(codec::receive_fault(
-            r,
-            frames,
-            control,
-            line,
-            octets.len(),
-            bits.len(),
-            marks.len(),
-        ));
-    }
-    let done = codec::receive(r, law_of(a_law), frames, control, line, octets, bits, marks);
-    let outcome = done.outcome;
-    let said = done.said;
-    end_heard(outcome, said, heard);
-    end_call(outcome, done.state, frames, state)
+    frames_c::receive(
+        rec,
+        a_law,
+        frames,
+        control,
+        octets,
+        bits,
+        marks,
+        heard,
+        state,
+    )
 }
 
 // Writes the default DIL, and answers how many octets it has.
@@ -163,20 +113,7 @@ pub extern "C" fn v91_send_cp(rec: &[u8], a_law: bool, octets: &mut [u8], state:
     ensures { λ r. ⌜ v91SendCp (now (rec .entry)) «a_law» (now (octets .entry)) (now (state .entry))
         ≡ record { answer = r; octets = now (octets .exit); state = now (state .exit) } ⌝ }
 {
-    if lent_short(rec.len(), state.len()) {
-        return INPUT_TOO_SHORT;
-    }
-    let r = forms::record_from(rec);
-    let line = states::state_from(state);
-    let sent = start::send_cp(r, law_of(a_law), line, octets);
-    let total = sent.octet_count as u32;
-    let outcome = sent.outcome;
-    let refusal = codes::code_of(outcome);
-    if refusal != 0 {
-        return refusal;
-    }
-    states::line_into(sent.state, state);
-    total
+    cp_c::send_cp(rec, a_law, octets, state)
 }
 
 // Finds the line state that a CP and E_s left from the last 24 of their octets.
@@ -184,17 +121,7 @@ pub extern "C" fn v91_send_cp(rec: &[u8], a_law: bool, octets: &mut [u8], state:
 pub extern "C" fn v91_find_state(octets: &[u8], state: &mut [u8]) -> u32
     ensures { λ r. ⌜ v91FindState (now (octets .entry)) (now (state .entry)) ≡ record { answer = r; state = now (state .exit) } ⌝ }
 {
-    if state.len() < STATE_BYTES {
-        return INPUT_TOO_SHORT;
-    }
-    let found = start::find_state(octets, states::state_from(state));
-    let outcome = found.outcome;
-    let refusal = codes::code_of(outcome);
-    if refusal != 0 {
-        return refusal;
-    }
-    states::line_into(found.state, state);
-    0
+    cp_c::find_state(octets, state)
 }
 
 // Plans a mask for a wanted rate: puts it and its sum of squares into the first 24 bytes.
@@ -213,4 +140,29 @@ pub extern "C" fn v91_plan(k: u32, a_law: bool, spacing: u32, ceiling: u64, byte
     }
     forms::plan_into(planned, bytes);
     0
+}
+
+// Puts a record's setting for a junction: writes the file afresh into `out`, and answers its length.
+#[no_mangle]
+pub extern "C" fn v91_put(file: &[u8], junction: u16, rec: &[u8], out: &mut [u8]) -> u32
+    ensures { λ r. ⌜ v91Put (now (file .entry)) junction (now (rec .entry)) (now (out .entry))
+        ≡ record { answer = r; out = now (out .exit) } ⌝ }
+{
+    settings_c::put(file, junction, rec, out)
+}
+
+// Exchanges the two settings of a junction: writes the file afresh into `out`, and answers its length.
+#[no_mangle]
+pub extern "C" fn v91_go_back(file: &[u8], junction: u16, out: &mut [u8]) -> u32
+    ensures { λ r. ⌜ v91GoBack (now (file .entry)) junction (now (out .entry)) ≡ record { answer = r; out = now (out .exit) } ⌝ }
+{
+    settings_c::go_back(file, junction, out)
+}
+
+// Looks up the record of a junction's current setting.
+#[no_mangle]
+pub extern "C" fn v91_look_up(file: &[u8], junction: u16, rec: &mut [u8]) -> u32
+    ensures { λ r. ⌜ v91LookUp (now (file .entry)) junction (now (rec .entry)) ≡ record { answer = r; rec = now (rec .exit) } ⌝ }
+{
+    settings_c::look_up(file, junction, rec)
 }

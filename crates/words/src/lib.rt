@@ -1,6 +1,10 @@
-// What a program says and is told: messages from templates, the words of a command, numbers in decimal. Nothing is read or written here.
+// What a program says and is told: messages from templates, the columns of a table, the words of a command, numbers in decimal. Nothing is
+// read or written here.
+mod columns;
 mod parts;
 
+pub use columns::add_left;
+pub use columns::add_right;
 pub use parts::Number;
 pub use parts::Part;
 pub use parts::all_digits;

@@ -1,0 +1,217 @@
+// A settings file written afresh: entries copied from another one, those of a junction among them, and the trailer.
+use entries::next_at;
+use entries::one_if;
+use entries::size_of;
+use entries::wide;
+use standard::FileWritten;
+use standard::Outcome;
+use standard::Refusal;
+use standard::Version;
+ghost use mathlib.Core.Path.{_≡_};
+ghost use mathlib.Core.Bool.{true, cond};
+ghost use mathlib.Core.List.{[], _∷_, _++_};
+ghost use mathlib.Core.Option.{some};
+ghost use Prim.Native.Nat.{_+_, _<_, _≤_, _%_};
+ghost use lib.ListN.{length, getD, take, drop};
+ghost use Rattle.standard.specs.Refusals.{outcomeAnswer};
+ghost use Rattle.standard.specs.Settings.{little, entryAt, entriesAt, entry, fileOf, trailer};
+ghost use Rattle.standard.specs.Calls.{writtenLength, writtenOut};
+ghost use Rattle.entries.specs.Entries.{inside, sizes};
+ghost use Rattle.rewriting.specs.Rewriting.{laid, Lays, given, ownEntries, around, rewritten, writtenRefusal};
+
+// Copies n bytes.
+fn copy_bytes(out: &mut [u8], to: usize, s: &[u8], from: usize, n: usize)
+    requires { ⌜ (to + n ≤ length (now out)) × (from + n ≤ length (now s)) ⌝ }
+    ensures { λ _. ⌜ now (out .exit) ≡ laid (now (out .entry)) to (take n (drop from (now (s .entry)))) ⌝ }
+{
+    let mut i: usize = 0;
+    while i < n {
+        out[to + i] = s[from + i];
+        i += 1;
+    }
+}
+
+fn low_byte(v: usize) -> u8
+    ensures { λ r. ⌜ r ≡ v % 256 ⌝ }
+{
+    (v % 256) as u8
+}
+
+// Writes a number in w bytes.
+fn put_number(out: &mut [u8], to: usize, v: usize, w: usize)
+    requires { ⌜ to + w ≤ length (now out) ⌝ }
+    ensures { λ _. ⌜ now (out .exit) ≡ laid (now (out .entry)) to (little w v) ⌝ }
+{
+    let mut rest = v;
+    let mut i: usize = 0;
+    while i < w {
+        out[to + i] = low_byte(rest);
+        rest = rest / 256;
+        i += 1;
+    }
+}
+
+// Where the next entry goes, and where the one before it starts.
+pub struct Spot {
+    pub to: usize,
+    pub before: usize,
+}
+
+// Writes an entry.
+fn put_entry(out: &mut [u8], w: usize, p: Spot, junction: usize, kind: usize, cp: &[u8]) -> Spot
+    requires { ⌜ (p .to + (4 + length (now cp) + w) ≤ length (now out)) × (length (now cp) < 256) × (kind < 256) ⌝ }
+    ensures { λ q. ⌜ Lays w (now (out .entry)) p (entry kind junction (some (now (cp .entry)))) (now (out .exit)) q ⌝ }
+{
+    let len = cp.len();
+    let to = p.to;
+    put_number(out, to, junction, 2);
+    put_number(out, to + 2, kind, 1);
+    put_number(out, to + 3, len, 1);
+    copy_bytes(out, to + 4, cp, 0, len);
+    put_number(out, to + 4 + len, p.before, w);
+    Spot {
+        to: to + 4 + len + w,
+        before: to,
+    }
+}
+
+// Writes the entry of a previous setting, where there is one.
+fn put_previous(out: &mut [u8], w: usize, p: Spot, junction: usize, cp: &[u8], has: bool) -> Spot
+    requires { ⌜ (p .to + sizes w (entry 1 junction (given has (now cp))) ≤ length (now out)) × (length (now cp) < 256) ⌝ }
+    ensures { λ q. ⌜ Lays w (now (out .entry)) p (entry 1 junction (given has (now (cp .entry)))) (now (out .exit)) q ⌝ }
+{
+    if has {
+        return put_entry(out, w, p, junction, 1, cp);
+    }
+    p
+}
+
+// Copies the entry at `at` of a file, with a start of w bytes.
+fn copy_entry(out: &mut [u8], w: usize, p: Spot, s: &[u8], at: usize) -> Spot
+    requires { ⌜ (at + 4 + getD (now s) (at + 3) 0 ≤ length (now s)) × (p .to + (4 + getD (now s) (at + 3) 0) + w ≤ length (now out)) ⌝ }
+    ensures { λ q. ⌜ Lays w (now (out .entry)) p (entryAt (now (s .entry)) at ∷ []) (now (out .exit)) q ⌝ }
+{
+    let len = 4 + wide(s[at + 3]);
+    let to = p.to;
+    copy_bytes(out, to, s, at, len);
+    put_number(out, to + len, p.before, w);
+    Spot {
+        to: to + len + w,
+        before: to,
+    }
+}
+
+// Copies n entries of a file with starts of v bytes, from `at` on, with starts of w bytes.
+fn copy_entries(out: &mut [u8], w: usize, p: Spot, s: &[u8], v: usize, at: usize, n: usize) -> Spot
+    requires { ⌜ (inside v (now s) (length (now s)) n at ≡ true) × (p .to + sizes w (entriesAt v (now s) at n) ≤ length (now out)) ⌝ }
+    ensures { λ q. ⌜ Lays w (now (out .entry)) p (entriesAt v (now (s .entry)) at n) (now (out .exit)) q ⌝ }
+{
+    let mut q = p;
+    let mut a = at;
+    let mut i: usize = 0;
+    while i < n {
+        q = copy_entry(out, w, q, s, a);
+        a = next_at(s, a, v);
+        i += 1;
+    }
+    q
+}
+
+// Writes k entries of a file from its first one on, those of a junction, and m entries of the file from `at` on.
+fn put_entries(
+    out: &mut [u8],
+    w: usize,
+    s: &[u8],
+    v: usize,
+    k: usize,
+    at: usize,
+    m: usize,
+    junction: usize,
+    current: &[u8],
+    previous: &[u8],
+    has: bool,
+) -> Spot
+    requires { ⌜ (inside v (now s) (length (now s)) k 0 ≡ true) × (inside v (now s) (length (now s)) m at ≡ true) ⌝ }
+    requires { ⌜ sizes w (around v (now s) k (ownEntries junction (now current) has (now previous)) at m) ≤ length (now out) ⌝ }
+    requires { ⌜ (length (now current) < 256) × (length (now previous) < 256) ⌝ }
+    ensures { λ q. ⌜ Lays w (now (out .entry)) (record { to = 0; before = 0 })
+        (around v (now (s .entry)) k (ownEntries junction (now (current .entry)) has (now (previous .entry))) at m) (now (out .exit)) q ⌝ }
+{
+    let front = copy_entries(out, w, Spot { to: 0, before: 0 }, s, v, 0, k);
+    let first = put_entry(out, w, front, junction, 0, current);
+    let own = put_previous(out, w, first, junction, previous, has);
+    copy_entries(out, w, own, s, v, at, m)
+}
+
+// The bytes of the entries of one junction.
+fn own_size(w: usize, current: usize, previous: usize, has: bool) -> usize
+    requires { ⌜ (w ≤ 4) × (current < 256) × (previous < 256) ⌝ }
+    ensures { λ r. ⌜ r ≡ (4 + current + w) + cond has (4 + previous + w) 0 ⌝ }
+    ensures { λ r. ⌜ r ≤ 526 ⌝ }
+{
+    if has {
+        return 4 + current + w + (4 + previous + w);
+    }
+    4 + current + w
+}
+
+// Writes the trailer behind `body` bytes of entries.
+fn put_trailer(out: &mut [u8], body: usize, g: Version, count: usize, last: usize)
+    requires { ⌜ (body + trailer g ≤ length (now out)) × (g .start ≤ 4) × (g .count ≤ 2) ⌝ }
+    ensures { λ _. ⌜ now (out .exit) ≡ laid (now (out .entry)) body (little (g .count) count ++ (little (g .start) last ++
+        (g .byte ∷ []))) ⌝ }
+{
+    let c = g.count;
+    let w = g.start;
+    let byte = wide(g.byte);
+    put_number(out, body, count, c);
+    put_number(out, body + c, last, w);
+    put_number(out, body + c + w, byte, 1);
+}
+
+// Writes a file of the form g afresh: the first k of the n entries of a file with starts of v bytes, the entries of one junction,
+// and those from number u on. Refusal 17.
+pub fn written(
+    s: &[u8],
+    v: usize,
+    n: usize,
+    k: usize,
+    u: usize,
+    g: Version,
+    junction: usize,
+    current: &[u8],
+    previous: &[u8],
+    has: bool,
+    out: &mut [u8],
+) -> FileWritten
+    requires { ⌜ inside v (now s) (length (now s)) n 0 ≡ true ⌝ }
+    requires { ⌜ (n < 65536) × (v ≤ 4) × (k ≤ n) × (u ≤ n) ⌝ }
+    requires { ⌜ (g .start ≤ 4) × (g .count ≤ 2) ⌝ }
+    requires { ⌜ (length (now current) < 256) × (length (now previous) < 256) ⌝ }
+    ensures { λ r. ⌜ (let own = ownEntries junction (now (current .entry)) has (now (previous .entry)) in
+        let t = fileOf g (rewritten v (now (s .entry)) n k u own) in
+        let a = writtenRefusal (length (now (out .entry))) t in
+        (outcomeAnswer (r .outcome) ≡ a) × (r .length ≡ writtenLength a t) × (now (out .exit) ≡ writtenOut a t (now (out .entry)))) ⌝ }
+{
+    let w = g.start;
+    let c = g.count;
+    let at = size_of(s, v, 0, u, v);
+    let m = n - u;
+    let front = size_of(s, v, 0, k, w);
+    let own = own_size(w, current.len(), previous.len(), has);
+    let body = front + own + size_of(s, v, at, m, w);
+    let length = body + (c + w + 1);
+    if out.len() < length {
+        return FileWritten {
+            outcome: Outcome::Refused(Refusal::OutputTooShort),
+            length: 0,
+        };
+    }
+    let end = put_entries(out, w, s, v, k, at, m, junction, current, previous, has);
+    let last = end.before;
+    put_trailer(out, body, g, k + (1 + one_if(has)) + m, last);
+    FileWritten {
+        outcome: Outcome::Done,
+        length,
+    }
+}

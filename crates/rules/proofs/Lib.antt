@@ -1,0 +1,4 @@
+pub mod Reading
+pub mod WalkIs
+pub mod Walking
+pub mod FileIs

@@ -1,0 +1,4 @@
+pub mod Opening
+pub mod Finding
+pub mod Answers
+pub mod Reading

@@ -1,0 +1,109 @@
+-- Broken, missing, or read. Assumes nothing.
+use mathlib.Core.Path.{_≡_, refl, sym, ap, _∙_}
+use mathlib.Core.Bool.{true}
+use Prim.Native.Nat.{_+_, _-_}
+use native.Mathlib.Omega.{arith}
+use borrow.Author.Needs.{needs}
+use borrow.Author.Tests.{not-true, not-false, le-ltb}
+use lib.ListN.{take, drop}
+use Rattle.standard.specs.Refusals.{outcomeAnswer}
+use Rattle.standard.specs.Settings.{bitCountOf, isFile}
+use Rattle.settings.proofs.Opening.{inside-first, slice-length}
+use Rattle.settings.proofs.Finding.{there-is}
+use Rattle.settings.proofs.Answers.{current-found, current-shown, look-broken, look-missing, look-done}
+use Rattle.settings.proofs.look_up.Statement.{statement}
+use Rattle.settings.proofs.look_up.Tie as tie
+
+-- past 22
+valid : (c : tie.Else1) → isFile (c .before .before .before .args .file .now) ≡ true
+valid c = sym (c .before .is-file .ensures) ∙ not-false _ (c .if1 .left)
+
+is-file-requires : tie.Need-is-file-requires
+is-file-requires c κs = search needs
+
+no-record-requires : tie.Need-no-record-requires
+no-record-requires c κs = search needs
+
+returns : tie.Need-returns
+returns c =
+    let a = c .before .before .before .before .args in
+    let k = look-broken (a .file .now) (a .junction) (sym (c .before .before .is-file .ensures) ∙ not-true _ (c .before .if1 .taken)) in
+    (ap outcomeAnswer (c .no-record .ensures .0) ∙ k .0, c .no-record .ensures .1 ∙ k .1)
+
+found-in-requires : tie.Need-found-in-requires
+found-in-requires c κs = (valid c, omega arith)
+
+no-record-requires-2 : tie.Need-no-record-requires-2
+no-record-requires-2 c κs = search needs
+
+returns-2 : tie.Need-returns-2
+returns-2 c =
+    let a = c .before .before .before .before .before .before .before .before .args in
+    let f = c .before .before .before .before .found-in in
+    let v = valid (c .before .before .before .before .before) in
+    let n = there-is _ _ _ (current-found (a .file .now) (a .junction) v (f .result) (f .ensures))
+    ∙ le-ltb (f .result .below) (f .result .upto) (c .before .if2 .taken) in
+    let k = look-missing (a .file .now) (a .junction) v n in
+    (ap outcomeAnswer (c .no-record2 .ensures .0) ∙ k .0, c .no-record2 .ensures .1 ∙ k .1)
+
+cp-place-requires : tie.Need-cp-place-requires
+cp-place-requires c κs =
+    let a = c .before .before .before .before .before .before .before .args in
+    let f = c .before .before .before .found-in in
+    let e = f .ensures in (
+      (λ z. inside-first (f .result .version .start) (a .file .now) (f .result .entries) (f .result .below + 1) (e .inner)
+          (omega (arith, c .if2 .left, e .endLow))),
+      omega (arith, e .frontLow, e .few),
+      e .start,
+    )
+
+sub-read-cp : tie.Need-sub-read-cp
+sub-read-cp c = search needs
+
+part-read-cp-start : tie.Need-part-read-cp-start
+part-read-cp-start c = search needs
+
+part-read-cp-end : tie.Need-part-read-cp-end
+part-read-cp-end c = search needs
+
+sub-bit-count-of : tie.Need-sub-bit-count-of
+sub-bit-count-of c = search needs
+
+bit-count-of-requires : tie.Need-bit-count-of-requires
+bit-count-of-requires c κs = search needs
+
+read-cp-requires : tie.Need-read-cp-requires
+read-cp-requires c κs = search needs
+
+returns-3 : tie.Need-returns-3
+returns-3 c =
+    let a = c .before .before .before .before .before .before .before .before .before .before .before .args in
+    let f = c .before .before .before .before .before .before .before .found-in in
+    let v = valid (c .before .before .before .before .before .before .before .before) in
+    let p = c .before .before .before .cp-place in
+    let cp = take (p .result .to - p .result .from) (drop (p .result .from) (a .file .now)) in
+    let q = current-shown (a .file .now) (a .junction) v (f .result) (f .ensures) (c .before .before .before .before .if2 .left) cp
+    (p .ensures .1 refl) in
+    let n = slice-length (a .file .now) (p .result .from) (p .result .to) (p .ensures .0 .0) (p .ensures .0 .1) in
+    look-done (a .file .now) (a .junction) v cp q _ (c .before .bit-count-of .ensures .0 ∙ ap bitCountOf (sym n)) _ _
+    (c .read-cp .ensures .0)
+    (c .read-cp .ensures .1)
+
+pub look-up-spec : {M : Type 1} → statement M
+look-up-spec =
+    tie.close
+    (tie.spec
+    is-file-requires
+    no-record-requires
+    returns
+    found-in-requires
+    no-record-requires-2
+    returns-2
+    cp-place-requires
+    sub-read-cp
+    part-read-cp-start
+    part-read-cp-end
+    sub-bit-count-of
+    bit-count-of-requires
+    read-cp-requires
+    returns-3)

@@ -1,0 +1,162 @@
+-- Broken, too many, or written afresh. Assumes nothing.
+use mathlib.Core.Path.{_≡_, sym, ap, _∙_}
+use mathlib.Core.Bool.{true, false}
+use mathlib.Core.List.{List}
+use Prim.Native.Nat.{ℕ, _+_, _-_}
+use native.Mathlib.Omega.{arith}
+use borrow.Author.Needs.{needs}
+use borrow.Author.Tests.{not-true, not-false, ltb-true}
+use lib.ListN.{length, take}
+use lib.Seq.{length-take-le}
+use Rattle.standard.specs.Refusals.{outcomeAnswer}
+use Rattle.standard.specs.Settings.{settingsIn, put, putFile, junctions, isFile}
+use Rattle.standard.specs.Calls.{accepted}
+use Rattle.rewriting.specs.Rewriting.{writtenRefusal}
+use Rattle.settings.specs.Putting.{cpPutRefusal}
+use Rattle.settings.proofs.Opening.{inside-first, slice-short}
+use Rattle.settings.proofs.Answers.{refused-writes, same-writes, many-is, too-many, not-many, put-is, cp-broken, cp-many, cp-past}
+use Rattle.settings.proofs.put_cp.Statement.{statement}
+use Rattle.settings.proofs.put_cp.Tie as tie
+
+-- past 22
+valid : (c : tie.Else1) → isFile (c .before .before .before .before .before .args .file .now) ≡ true
+valid c = sym (c .before .is-file .ensures) ∙ not-false _ (c .if1 .left)
+
+-- the junctions after the put
+many : (c : tie.After-junctions-in) → (cp : List ℕ) → c .before .one-if .result + c .junctions-in .result
+    ≡ junctions (put (c .before .before .before .before .before .before .before .before .before .args .j) cp
+    (settingsIn (c .before .before .before .before .before .before .before .before .before .args .file .now)))
+many c cp =
+    let entry = c .before .before .before .before in
+    let a = entry .before .before .before .before .before .args in
+    let f = c .before .before .before .found-in in
+    many-is (a .file .now) (a .j) (valid entry) (f .result) (f .ensures) cp _ _ (c .before .one-if .ensures .0)
+    (c .junctions-in .ensures .0)
+
+is-file-requires : tie.Need-is-file-requires
+is-file-requires c κs = search needs
+
+refused-requires : tie.Need-refused-requires
+refused-requires c κs = search needs
+
+returns : tie.Need-returns
+returns c =
+    let a = c .before .before .before .before .before .before .args in
+    let r = c .refused .ensures in
+    let cp = take (a .len) (a .cp .now) in
+    let k = cp-broken (a .file .now) (a .j) cp (length (a .out .now))
+    (sym (c .before .before .is-file .ensures) ∙ not-true _ (c .before .if1 .taken)) in
+    refused-writes (cpPutRefusal (a .file .now) (a .j) cp (length (a .out .now))) (putFile (a .file .now) (a .j) cp) (a .out .now) _ _
+    (ap accepted (sym k)) (ap outcomeAnswer (r .0) ∙ k) (r .1)
+
+found-in-requires : tie.Need-found-in-requires
+found-in-requires c κs = (valid c, c .before .before .before .before .before .pre .0)
+
+one-if-requires : tie.Need-one-if-requires
+one-if-requires c κs = search needs
+
+junctions-in-requires : tie.Need-junctions-in-requires
+junctions-in-requires c κs = search needs
+
+add-many : tie.Need-add-many
+add-many c = search needs
+
+refused-requires-2 : tie.Need-refused-requires-2
+refused-requires-2 c κs = search needs
+
+returns-2 : tie.Need-returns-2
+returns-2 c =
+    let counted = c .before .before .before in
+    let entry = counted .before .before .before .before in
+    let a = entry .before .before .before .before .before .args in
+    let f = counted .before .before .before .found-in in
+    let r = c .refused2 .ensures in
+    let cp = take (a .len) (a .cp .now) in
+    let m = too-many (a .file .now) (a .j) (valid entry) (f .result) (f .ensures) cp _ (many counted cp) (c .before .if2 .taken) in
+    let k = cp-many (a .file .now) (a .j) cp (length (a .out .now)) (valid entry) m in
+    refused-writes (cpPutRefusal (a .file .now) (a .j) cp (length (a .out .now))) (putFile (a .file .now) (a .j) cp) (a .out .now) _ _
+    (ap accepted (sym k)) (ap outcomeAnswer (r .0) ∙ k) (r .1)
+
+cp-place-requires : tie.Need-cp-place-requires
+cp-place-requires c κs =
+    let counted = c .before .before in
+    let a = counted .before .before .before .before .before .before .before .before .before .args in
+    let f = counted .before .before .before .found-in in
+    let e = f .ensures in (
+      (λ z. inside-first (f .result .version .start) (a .file .now) (f .result .entries) (f .result .below + 1) (e .inner)
+          (omega (arith, ltb-true (f .result .below) (f .result .upto) z, e .endLow))),
+      omega (arith, e .frontLow, e .few),
+      e .start,
+    )
+
+slice-aggregate-written : tie.Need-slice-aggregate-written
+slice-aggregate-written c =
+    sym (length-take-le _ _
+    (c .before .before .before .before .before .before .before .before .before .before .before .before .before .pre .1))
+
+sub-written : tie.Need-sub-written
+sub-written c = search needs
+
+part-written-start : tie.Need-part-written-start
+part-written-start c = search needs
+
+part-written-end : tie.Need-part-written-end
+part-written-end c = search needs
+
+written-requires : tie.Need-written-requires
+written-requires c κs =
+    let counted = c .before .before .before .before .before .before in
+    let start = counted .before .before .before .before .before .before .before .before .before in
+    let a = start .args in
+    let e = counted .before .before .before .found-in .ensures in
+    let p = c .before .before .before .cp-place in
+    let short = slice-short (a .file .now) (p .result .from) (p .result .to) (p .ensures .0 .0) (p .ensures .0 .1) (p .ensures .0 .2) in (
+      e .inner,
+      (
+        (e .few, e .start, e .frontLow, e .endLow),
+        (
+          (e .start, e .count),
+          (omega (arith, length-take-le (a .len) (a .cp .now) (start .pre .1), start .pre .2), short),
+        ),
+      ),
+    )
+
+same-length : tie.Need-same-length
+same-length c = search needs
+
+returns-3 : tie.Need-returns-3
+returns-3 c =
+    let counted = c .before .before .before .before .before .before .before .before .before in
+    let entry = counted .before .before .before .before in
+    let a = entry .before .before .before .before .before .args in
+    let f = counted .before .before .before .found-in in
+    let cp = take (a .len) (a .cp .now) in
+    let p = c .before .before .before .before .before .before .cp-place in
+    let room = length (a .out .now) in
+    let m = not-many (a .file .now) (a .j) (valid entry) (f .result) (f .ensures) cp _ (many counted cp)
+    (c .before .before .before .before .before .before .before .if2 .left) in
+    let t = put-is (a .file .now) (a .j) (valid entry) (f .result) (f .ensures) cp _ (p .ensures .1) in
+    same-writes _ (cpPutRefusal (a .file .now) (a .j) cp room) _ (putFile (a .file .now) (a .j) cp) (a .out .now) _ _ _
+    (ap (writtenRefusal room) t ∙ cp-past (a .file .now) (a .j) cp room (valid entry) m) t (c .before .before .written .ensures)
+
+pub put-cp-spec : {M : Type 1} → statement M
+put-cp-spec =
+    tie.close
+    (tie.spec
+    is-file-requires
+    refused-requires
+    returns
+    found-in-requires
+    one-if-requires
+    junctions-in-requires
+    add-many
+    refused-requires-2
+    returns-2
+    cp-place-requires
+    slice-aggregate-written
+    sub-written
+    part-written-start
+    part-written-end
+    written-requires
+    same-length
+    returns-3)

@@ -1,0 +1,15 @@
+pub mod Logic
+pub mod Numbers
+pub mod Entries
+pub mod Laid
+pub mod ReadBack
+pub mod FileBack
+pub mod Readable
+pub mod Shown
+pub mod Order
+pub mod Counting
+pub mod Bounds
+pub mod Keeps
+pub mod Lengths
+pub mod Files
+pub mod Settings
