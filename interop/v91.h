@@ -55,9 +55,10 @@
  * its own. They allocate nothing, call no function but memset, and return. The stack is to be aligned to 16
  * bytes at the call, as the convention says. SSE registers are used (xmm0 to xmm15), so an interrupt that
  * calls a function has to save them; so is the red zone, 128 bytes below the stack pointer. Measured by
- * interop/footprint in calls of 1,024 frames with six full masks, the red zone included: 29,191 bytes of
- * code and 952 of constants; of stack 840 bytes (v91_write_cp), 688 (v91_read_cp), 2,752 (v91_send), 2,704
- * (v91_receive), 8 (v91_linear), 144 (v91_send_dil), 920 (v91_send_cp), 8 (v91_find_state) and 56 (v91_plan).
+ * interop/footprint in calls of 1,024 frames with six full masks, and with a full settings file, the red zone
+ * included: 39,479 bytes of code and 1,336 of constants; of stack 952 bytes (v91_write_cp), 928 (v91_read_cp),
+ * 2,752 (v91_send), 2,704 (v91_receive), 8 (v91_linear), 144 (v91_send_dil), 920 (v91_send_cp), 8
+ * (v91_find_state), 56 (v91_plan), 1,600 (v91_put), 1,152 (v91_go_back) and 1,312 (v91_look_up).
  */
 #ifndef V91_H
 #define V91_H

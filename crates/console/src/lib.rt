@@ -4,9 +4,11 @@ use words::add_choice;
 use words::add_message;
 use words::add_numbers;
 ghost use mathlib.Core.Path.{_≡_};
-ghost use mathlib.Core.Bool.{true, false};
+ghost use mathlib.Core.Bool.{true, false, _&&_};
 ghost use Prim.Native.Nat.{_+_, _%_, _^_, _≤_};
+ghost use lib.Dec.{leb};
 ghost use lib.ListN.{length};
+ghost use Rattle.words.specs.Parts.{partCount};
 ghost use Rattle.console.specs.Trouble.{isWell, isOver};
 
 // Puts argument i into the text from place `at` on, and a 0 behind it, and returns the place after it; the text's end where there is no
@@ -126,7 +128,9 @@ pub fn fail_choice(e: Ends, templates: &[u8], k: usize, values: &[u64], name: &[
 }
 
 // Whether a command has so many words; says so where it has not.
-pub fn has(e: Ends, words: &[u8], least: usize, most: usize) -> bool {
+pub fn has(e: Ends, words: &[u8], least: usize, most: usize) -> bool
+    ensures { λ x. ⌜ x ≡ (leb least (partCount 0 (now (words .entry))) && leb (partCount 0 (now (words .entry))) most) ⌝ }
+{
     let count = words::part_count(words, 0);
     let right = (least <= count) & (count <= most);
     if right {

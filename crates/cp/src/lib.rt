@@ -16,8 +16,8 @@ ghost use Rattle.standard.specs.Cp.{cpByteCount};
 ghost use Rattle.standard.specs.Refusals.{outcomeAnswer, writeTests};
 ghost use Rattle.standard.specs.Calls.{readCall, readRefusal, readRecord, writeCall, writeRefusal, writeBitCount, writeBytes};
 
-// The answer to a CP that is refused: the record is all zero.
-fn refused(outcome: Outcome) -> CpRead
+// The answer to a call for a record that is refused: the record is all zero.
+pub fn refused(outcome: Outcome) -> CpRead
     ensures { λ x. ⌜ (x .outcome ≡ outcome) × (x .record ≡ noRecord) ⌝ }
 {
     CpRead {

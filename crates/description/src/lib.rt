@@ -12,8 +12,14 @@ pub use flipped::add_flip;
 use standard::Record;
 use words::add_choice;
 use words::add_numbers;
-ghost use Prim.Native.Nat.{_<_, _≤_};
+ghost use mathlib.Core.Path.{_≡_};
+ghost use mathlib.Core.Bool.{cond};
+ghost use Prim.Native.Nat.{_+_, _*_, _<_, _≤_};
+ghost use lib.Dec.{ltb};
 ghost use lib.ListN.{length};
+ghost use Rattle.standard.specs.Record.{halfOf};
+ghost use Rattle.standard.specs.Constellation.{sizeOf};
+ghost use Rattle.constellation.specs.Mask.{has};
 
 // The choice of `add_rate_words` for a drn and the thirds of its rate.
 fn rate_choice(drn: u8, third: u64) -> usize {
@@ -64,6 +70,7 @@ pub(crate) fn add_rate(text: &mut [u8], at: usize, r: Record) -> usize
 // Mask m of a record.
 fn mask_at(r: Record, m: usize) -> Mask
     requires { ⌜ m < 6 ⌝ }
+    ensures { λ x. ⌜ x ≡ record { low = halfOf r (2 * m); high = halfOf r (2 * m + 1) } ⌝ }
 {
     let mask = r.mask;
     let at = 2 * m;
@@ -74,7 +81,9 @@ fn mask_at(r: Record, m: usize) -> Mask
 }
 
 // How many points mask m has; none where there is no such mask.
-pub fn points_in(r: Record, m: u8) -> u64 {
+pub fn points_in(r: Record, m: u8) -> u64
+    ensures { λ n. ⌜ n ≡ cond (ltb 5 m) 0 (sizeOf (has (record { low = halfOf r (2 * m); high = halfOf r (2 * m + 1) })) 128) ⌝ }
+{
     if 5 < m {
         return 0;
     }

@@ -57,7 +57,8 @@ fn readable_cp(cp: &[u8]) -> bool
     true
 }
 
-// Whether an entry of this junction and kind may stand here.
+// Whether an entry of this junction and kind may stand here: a current one whose junction is `bar` or more or, where the entry before it is
+// a current one (`follow`), the previous one of that junction, which is `bar` - 1.
 fn in_order(junction: usize, kind: u8, bar: usize, follow: bool) -> bool
     requires { ⌜ junction < 65536 ⌝ }
     ensures { λ r. ⌜ r ≡ ((eqb kind 0 && leb bar junction) || ((eqb kind 1 && follow) && eqb (junction + 1) bar)) ⌝ }
@@ -65,7 +66,7 @@ fn in_order(junction: usize, kind: u8, bar: usize, follow: bool) -> bool
     ((kind == 0) & (bar <= junction)) | (((kind == 1) & follow) & (junction + 1 == bar))
 }
 
-// Whether the entry is in order and its CP readable.
+// Whether the entry at a place is in order and its CP readable.
 fn good_at(s: &[u8], at: usize, bar: usize, follow: bool) -> bool
     requires { ⌜ at + 4 + getD (now s) (at + 3) 0 ≤ length (now s) ⌝ }
     ensures { λ r. ⌜ r ≡ goodAt (now (s .entry)) at bar follow ⌝ }
@@ -76,7 +77,7 @@ fn good_at(s: &[u8], at: usize, bar: usize, follow: bool) -> bool
     in_order(number_at(s, at, 2), s[at + 2], bar, follow) & fine
 }
 
-// Whether n entries from place 0 end at `end`, and keep the rules.
+// Whether n entries lie end to end from place 0 to `end`, the last from `last` on, and keep the rules with `most` junctions at most.
 fn entries_good(s: &[u8], end: usize, w: usize, last: usize, most: usize, n: usize) -> bool
     requires { ⌜ (end ≤ length (now s)) × (w ≤ 4) × (n < 65536) ⌝ }
     ensures { λ r. ⌜ r ≡ walk w (now (s .entry)) end last most n 0 0 0 false 0 ⌝ }

@@ -19,7 +19,6 @@ ghost use mathlib.Core.Path.{_≡_};
 ghost use mathlib.Core.Bool.{true};
 ghost use Prim.Native.Nat.{_+_, _-_, _<_, _≤_};
 ghost use lib.ListN.{length, getD, take, drop};
-ghost use Rattle.standard.specs.Record.{noRecord};
 ghost use Rattle.standard.specs.Refusals.{outcomeAnswer};
 ghost use Rattle.standard.specs.Settings.{versionIn, entryAt, putFile, isFile};
 ghost use Rattle.standard.specs.Calls.{writtenLength, writtenOut, putCall, putRefusal, putLength, putOut, backCall, backRefusal, backLength};
@@ -185,36 +184,20 @@ pub fn go_back(file: &[u8], junction: u16, out: &mut [u8]) -> FileWritten
     )
 }
 
-// The answer to a look-up that is refused: the record is all zero.
-fn no_record(outcome: Outcome) -> CpRead
-    ensures { λ x. ⌜ (x .outcome ≡ outcome) × (x .record ≡ noRecord) ⌝ }
-{
-    CpRead {
-        outcome,
-        record: Record {
-            granted: false,
-            drn: 0,
-            acknowledge: false,
-            index: [0u8; 6],
-            mask: [0u64; 12],
-        },
-    }
-}
-
 // The entry: the record of a junction's current setting. Refusals 22 and 23, the first that applies.
 pub fn look_up(file: &[u8], junction: u16) -> CpRead
     ensures { λ x. ⌜ (outcomeAnswer (x .outcome) ≡ lookRefusal (now (file .entry)) junction)
         × (x .record ≡ lookRecord (now (file .entry)) junction) ⌝ }
 {
     if !is_file(file) {
-        return no_record(Outcome::Refused(Refusal::FileBroken));
+        return cp::refused(Outcome::Refused(Refusal::FileBroken));
     }
     let f = found_in(file, junction as usize);
     let version = f.version;
     let v = version.start;
     let k = f.below;
     if f.upto <= k {
-        return no_record(Outcome::Refused(Refusal::SettingMissing));
+        return cp::refused(Outcome::Refused(Refusal::SettingMissing));
     }
     let current = cp_place(file, v, k, true);
     let from = current.from;
@@ -277,7 +260,7 @@ pub fn entry_at(file: &[u8], at: usize) -> EntryRead
     if entry_there(file, at) {
         return read_entry(file, at);
     }
-    let none = no_record(Outcome::Done);
+    let none = cp::refused(Outcome::Done);
     let record = none.record;
     EntryRead {
         found: false,

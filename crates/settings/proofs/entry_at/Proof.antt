@@ -19,16 +19,16 @@ returns c =
     let a = there .before .before .args in
     entry-yes (a .file .now) (a .at) _ (sym (c .before .if1 .taken) ∙ there .entry-there .ensures) (c .read-entry .ensures)
 
-no-record-requires : tie.Need-no-record-requires
-no-record-requires c κs = search needs
+refused-requires : tie.Need-refused-requires
+refused-requires c κs = search needs
 
 returns-2 : tie.Need-returns-2
 returns-2 c =
     let there = c .before .before .before in
     let a = there .before .before .args in
-    entry-no (a .file .now) (a .at) _ (sym (c .before .before .if1 .left) ∙ there .entry-there .ensures) (c .before .no-record .ensures .1)
+    entry-no (a .file .now) (a .at) _ (sym (c .before .before .if1 .left) ∙ there .entry-there .ensures) (c .before .refused .ensures .1)
 
 pub entry-at-spec : {M : Type 1} → statement M
 entry-at-spec =
     tie.close
-    (tie.spec entry-there-requires read-entry-requires returns no-record-requires returns-2)
+    (tie.spec entry-there-requires read-entry-requires returns refused-requires returns-2)

@@ -21,20 +21,20 @@ valid c = sym (c .before .is-file .ensures) ∙ not-false _ (c .if1 .left)
 is-file-requires : tie.Need-is-file-requires
 is-file-requires c κs = search needs
 
-no-record-requires : tie.Need-no-record-requires
-no-record-requires c κs = search needs
+refused-requires : tie.Need-refused-requires
+refused-requires c κs = search needs
 
 returns : tie.Need-returns
 returns c =
     let a = c .before .before .before .before .args in
     let k = look-broken (a .file .now) (a .junction) (sym (c .before .before .is-file .ensures) ∙ not-true _ (c .before .if1 .taken)) in
-    (ap outcomeAnswer (c .no-record .ensures .0) ∙ k .0, c .no-record .ensures .1 ∙ k .1)
+    (ap outcomeAnswer (c .refused .ensures .0) ∙ k .0, c .refused .ensures .1 ∙ k .1)
 
 found-in-requires : tie.Need-found-in-requires
 found-in-requires c κs = (valid c, omega arith)
 
-no-record-requires-2 : tie.Need-no-record-requires-2
-no-record-requires-2 c κs = search needs
+refused-requires-2 : tie.Need-refused-requires-2
+refused-requires-2 c κs = search needs
 
 returns-2 : tie.Need-returns-2
 returns-2 c =
@@ -44,7 +44,7 @@ returns-2 c =
     let n = there-is _ _ _ (current-found (a .file .now) (a .junction) v (f .result) (f .ensures))
     ∙ le-ltb (f .result .below) (f .result .upto) (c .before .if2 .taken) in
     let k = look-missing (a .file .now) (a .junction) v n in
-    (ap outcomeAnswer (c .no-record2 .ensures .0) ∙ k .0, c .no-record2 .ensures .1 ∙ k .1)
+    (ap outcomeAnswer (c .refused2 .ensures .0) ∙ k .0, c .refused2 .ensures .1 ∙ k .1)
 
 cp-place-requires : tie.Need-cp-place-requires
 cp-place-requires c κs =
@@ -94,10 +94,10 @@ look-up-spec =
     tie.close
     (tie.spec
     is-file-requires
-    no-record-requires
+    refused-requires
     returns
     found-in-requires
-    no-record-requires-2
+    refused-requires-2
     returns-2
     cp-place-requires
     sub-read-cp
