@@ -102,7 +102,7 @@ sizes-append w [] ys = omega arith
 sizes-append w (e ∷ xs) ys = omega (arith, sizes-append w xs ys)
 
 -- entries inside a byte string
-pub inside-low : (w : ℕ) (s : List ℕ) (end n at : ℕ) → inside w s end n at ≡ true → at ≤ end
+inside-low : (w : ℕ) (s : List ℕ) (end n at : ℕ) → inside w s end n at ≡ true → at ≤ end
 unfolding inside nextAt
 inside-low w s end zero at h = leb-true at end h
 inside-low w s end (suc n) at h = omega (arith, inside-next w s end n at h)

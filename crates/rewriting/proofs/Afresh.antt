@@ -8,7 +8,7 @@ use borrow.Author.Tests.{lt-ltb, le-ltb}
 use lib.ListN.{length, drop, length-append}
 use Rattle.standard.specs.First.{Answer, bare, first}
 use Rattle.standard.specs.declared.Version.{Version}
-use Rattle.standard.specs.Settings.{Entry, little, nextAt, entriesAt, entry, entriesBytes, lastStart, fileOf, trailer}
+use Rattle.standard.specs.Settings.{Entry, little, nextAt, entriesAt, entry, entriesBytes, fileOf, trailer}
 use Rattle.theorems_settings.proofs.Numbers.{length-little}
 use Rattle.theorems_settings.proofs.FileBack.{length-file}
 use Rattle.rewriting.specs.declared.Spot.{Spot}

@@ -3,7 +3,7 @@ use mathlib.Core.Path.{_≡_, refl, sym, ap, ap₂, subst, _∙_}
 use mathlib.Core.Bool.{Bool, true, false}
 use mathlib.Core.List.{List, [], _∷_, _++_, append-assoc, append-nil}
 use mathlib.Core.Option.{some}
-use Prim.Native.Nat.{ℕ, zero, suc, _+_, _-_, _/_, _%_, _<_, _≤_}
+use Prim.Native.Nat.{ℕ, suc, _+_, _-_, _/_, _%_, _<_, _≤_}
 use native.Mathlib.Nat.{add-zero, add-assoc}
 use native.Mathlib.Omega.{arith}
 use lib.ListN.{length, getD, take, drop, length-append}
@@ -27,7 +27,7 @@ size-more w before at e xs =
     ∙ ap (λ (k : ℕ). k + length (entriesBytes w at (at + entrySize w e) xs)) (length-entry w before e))
     ∙ omega arith
 
-pub bytes-append : (w before at : ℕ) (xs ys : List Entry)
+bytes-append : (w before at : ℕ) (xs ys : List Entry)
     → entriesBytes w before at (xs ++ ys)
     ≡ entriesBytes w before at xs ++ entriesBytes w (lastStart w before at xs) (at + length (entriesBytes w before at xs)) ys
 unfolding entriesBytes lastStart
@@ -79,7 +79,7 @@ five d o1 o2 o3 o4 o5 cp to w before j k h hc hk q1 q2 q3 q4 q5 =
 
 -- ---- entries laid from a spot on
 
-pub lays-none : (w : ℕ) (d : List ℕ) (p : Spot) → Lays w d p [] d p
+lays-none : (w : ℕ) (d : List ℕ) (p : Spot) → Lays w d p [] d p
 unfolding entriesBytes lastStart
 lays-none w d p = record { bytes = sym (laid-nil d (p .to)); to = sym (add-zero (p .to)); before = refl }
 
@@ -100,18 +100,18 @@ lays-one w d p e out n q en =
     }
 
 module _ (w : ℕ) (d : List ℕ) (p : Spot) (xs : List Entry) (o : List ℕ) (q : Spot) (l : Lays w d p xs o q) where
-  pub lays-to : q .to ≡ p .to + sizes w xs
+  lays-to : q .to ≡ p .to + sizes w xs
   lays-to = l .to ∙ ap (λ (k : ℕ). p .to + k) (length-bytes w (p .before) (p .to) xs)
 
   module _ (h : p .to + sizes w xs ≤ length d) where
     room : p .to + length (entriesBytes w (p .before) (p .to) xs) ≤ length d
     room = omega (arith, length-bytes w (p .before) (p .to) xs)
 
-    pub lays-long : length o ≡ length d
+    lays-long : length o ≡ length d
     lays-long = ap length (l .bytes) ∙ length-laid d (entriesBytes w (p .before) (p .to) xs) (p .to) room
 
     -- and others behind them
-    pub lays-append : (ys : List Entry) (t : List ℕ) (r : Spot) → Lays w o q ys t r → Lays w d p (xs ++ ys) t r
+    lays-append : (ys : List Entry) (t : List ℕ) (r : Spot) → Lays w o q ys t r → Lays w d p (xs ++ ys) t r
     lays-append ys t r m =
         let x : List ℕ = entriesBytes w (p .before) (p .to) xs in
         let y : List ℕ = entriesBytes w (q .before) (q .to) ys in
@@ -200,7 +200,7 @@ module _ (w v : ℕ) (s d : List ℕ) (k at m j : ℕ) (c : List ℕ) (has : Boo
 module _ (w v : ℕ) (s : List ℕ) (d : List ℕ) (p : Spot) (at n : ℕ) where
   pub record Copied (out : List ℕ) (q : Spot) (a i : ℕ) : Type 0 where
     pub done : i ≤ n
-    pub lays : Lays w d p (entriesAt v s at i) out q
+    lays : Lays w d p (entriesAt v s at i) out q
     pub here : inside v s (length s) (n - i) a ≡ true
     pub place : a ≡ placeAfter v s i at
 
@@ -212,7 +212,7 @@ module _ (w v : ℕ) (s : List ℕ) (d : List ℕ) (p : Spot) (at n : ℕ) where
 
   module _ (room : p .to + sizes w (entriesAt v s at n) ≤ length d) (out : List ℕ) (q : Spot) (a i : ℕ) (go : Copied out q a i) where
     -- those that are copied have room
-    pub copied-room : p .to + sizes w (entriesAt v s at i) ≤ length d
+    copied-room : p .to + sizes w (entriesAt v s at i) ≤ length d
     copied-room =
         let e : n ≡ i + (n - i) = omega (arith, go .done) in
         omega (arith, sizes-split w v s at n i (n - i) e)

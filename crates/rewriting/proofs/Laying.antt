@@ -1,14 +1,12 @@
 -- Pieces laid one after another into a buffer. Assumes nothing.
 use mathlib.Core.Path.{_≡_, refl, sym, ap, ap₂, _∙_}
-use mathlib.Core.Bool.{true}
-use mathlib.Core.List.{List, [], _∷_, _++_, append-assoc}
+use mathlib.Core.List.{List, [], _++_, append-assoc}
 use Prim.Native.Nat.{ℕ, suc, _+_, _-_, _/_, _%_, _<_, _≤_}
 use native.Mathlib.Nat.{add-assoc, add-zero}
 use native.Mathlib.Omega.{arith}
 use native.Mathlib.Numerals.{add-one}
 use lib.ListN.{length, getD, take, drop, set, take-append-drop, length-drop, length-append}
-use lib.Seq.{drop-cons, drop-drop, drop-at, take-at, take-all, length-take-le, paste, paste-zero, paste-suc, length-paste, getD-drop}
-use lib.Seq.{take-add}
+use lib.Seq.{drop-drop, drop-at, take-at, take-all, length-take-le, paste, paste-zero, paste-suc, length-paste, getD-drop}
 use Rattle.standard.specs.Settings.{little, entryAt, entryBytes}
 use Rattle.rewriting.specs.Rewriting.{laid}
 use Rattle.theorems_settings.specs.Settings.{Bytes}
@@ -47,7 +45,7 @@ laid-laid d x y at h =
     ∙ ap (λ (a : List ℕ). take at d ++ a) (sym (append-assoc x y (drop (at + length (x ++ y)) d)))
 
 -- what the library's copying loop leaves
-pub paste-laid : (d x : List ℕ) (at n : ℕ) → length x ≡ n → paste d at x n ≡ laid d at x
+paste-laid : (d x : List ℕ) (at n : ℕ) → length x ≡ n → paste d at x n ≡ laid d at x
 paste-laid d x at n e =
     ap₂ (λ (a : List ℕ) (k : ℕ). (take at d ++ a) ++ drop (at + k) d) (take-all n x (omega arith)) (sym e) ∙ sym (laid-is d x at)
 

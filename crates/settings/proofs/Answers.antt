@@ -3,7 +3,7 @@ use mathlib.Core.Path.{_≡_, refl, sym, ap, ap₂, _∙_}
 use mathlib.Core.Option.{Option, none, some}
 use Prim.Native.Nat.{ℕ, _+_, _-_, _/_, _<_, _≤_}
 use mathlib.Core.Bool.{Bool, true, false, not, cond}
-use mathlib.Core.List.{List, [], _∷_}
+use mathlib.Core.List.{List}
 use native.Mathlib.Omega.{arith}
 use borrow.Author.Tests.{eqb-true, lt-ltb, lt-leb, le-leb}
 use lib.Dec.{eqb, ltb}
@@ -15,12 +15,12 @@ use Rattle.standard.specs.Record.{topIndex, noRecord}
 use Rattle.standard.specs.Cp.{cpByteCount, cpBytes}
 use Rattle.standard.specs.Refusals.{outcomeAnswer, recordTests, readTests}
 use Rattle.standard.specs.Settings.{versionIn, Entry, entryAt, entriesAt, fileOf, entriesIn, settingsIn, find, there, below, entry, replace}
-use Rattle.standard.specs.Settings.{put, back, putFile, backFile, junctions, few, bitCountOf, readable, allReadable, isFile, fileBroken}
-use Rattle.standard.specs.Settings.{tooManyJunctions, noRoom, putTests, backTests, lookTests}
+use Rattle.standard.specs.Settings.{put, back, putFile, backFile, junctions, few, bitCountOf, readable, allReadable, isFile}
+use Rattle.standard.specs.Settings.{putTests, backTests, lookTests}
 use Rattle.standard.specs.Calls.{accepted, over, writtenLength, writtenOut, readCall, readRefusal, readRecord, writeCall, writeRefusal}
 use Rattle.standard.specs.Calls.{writeBitCount, writeBytes, PutCall, putRefusal, BackCall, backRefusal, lookRefusal, recordOf, lookRecord}
 use Rattle.standard.specs.declared.Outcome.{Outcome}
-use Rattle.standard.specs.declared.Outcome.the-variants.{Done, Refused}
+use Rattle.standard.specs.declared.Outcome.the-variants.{Refused}
 use Rattle.standard.specs.declared.Record.{Record}
 use Rattle.standard.specs.declared.Refusal.{Refusal}
 use Rattle.standard.specs.declared.Version.{Version}

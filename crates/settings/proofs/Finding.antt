@@ -21,7 +21,7 @@ use Rattle.rewriting.specs.Rewriting.{given, ownEntries, rewritten}
 use Rattle.entries.proofs.Inside.{entries-append}
 
 -- below and above are the front and the end of a list in order
-pub below-take : (j bar : ℕ) (follow : Bool) (es : List Entry) → rising bar follow es ≡ true → below j es ≡ take (length (below j es)) es
+below-take : (j bar : ℕ) (follow : Bool) (es : List Entry) → rising bar follow es ≡ true → below j es ≡ take (length (below j es)) es
 unfolding below
 below-take j bar follow [] h = refl
 below-take j bar follow (e ∷ es) h =
@@ -36,7 +36,7 @@ below-take j bar follow (e ∷ es) h =
         ∙ below-none j (e .junction + 1) (eqb (e .kind) 0) es (omega arith) (rising-tail bar follow e es h) in
         q ∙ ap (λ (t : List Entry). take (length t) (e ∷ es)) (sym q)
 
-pub above-drop : (j bar : ℕ) (follow : Bool) (es : List Entry) → rising bar follow es ≡ true
+above-drop : (j bar : ℕ) (follow : Bool) (es : List Entry) → rising bar follow es ≡ true
     → above j es ≡ drop (length (below (j + 1) es)) es
 unfolding below above
 above-drop j bar follow [] h = refl
@@ -146,17 +146,17 @@ behind-previous j e es p q t =
     (ne-eqb (e .kind) 1 (λ z. omega arith))
     ∙ next-previous j es t ∙ sym (ap (λ (b : Bool). cond b (some (getD es 0 noEntry .cp)) none) (ltb-suc 0 (length (below (j + 1) es))))
 
-pub find-current : (j : ℕ) (es : List Entry) → rising 0 false es ≡ true
+find-current : (j : ℕ) (es : List Entry) → rising 0 false es ≡ true
     → find 0 j es ≡ shownAt 0 (length (below j es)) (length (below (j + 1) es)) es
 find-current j es h = find-number 0 j (behind-current j) 0 false es (omega arith) h
 
-pub find-previous : (j : ℕ) (es : List Entry) → rising 0 false es ≡ true
+find-previous : (j : ℕ) (es : List Entry) → rising 0 false es ≡ true
     → find 1 j es ≡ shownAt 1 (length (below j es)) (length (below (j + 1) es)) es
 find-previous j es h = find-number 1 j (behind-previous j) 0 false es (omega arith) h
 
 -- ---- entries by their numbers
 
-pub entry-number : (w : ℕ) (s : List ℕ) (n at i : ℕ) → i < n → getD (entriesAt w s at n) i noEntry ≡ entryAt s (placeAfter w s i at)
+entry-number : (w : ℕ) (s : List ℕ) (n at i : ℕ) → i < n → getD (entriesAt w s at n) i noEntry ≡ entryAt s (placeAfter w s i at)
 unfolding entriesAt placeAfter
 entry-number w s zero at i h = let z : ⊥ = omega arith in absurd z
 entry-number w s (suc n) at zero h = refl

@@ -86,7 +86,7 @@ module _ (w : ℕ) (s : List ℕ) (k : ℕ) (h : inside w s (length s) (k + 1) 0
   pub upto-here : inside w s (length s) k 0 ≡ true
   upto-here = before-inside .0
 
-  pub here-is : (at : ℕ) → at ≡ sizes w (entriesAt w s 0 k) → at ≡ placeAfter w s k 0
+  here-is : (at : ℕ) → at ≡ sizes w (entriesAt w s 0 k) → at ≡ placeAfter w s k 0
   here-is at e = e ∙ sym (place-size w s k 0 (before-inside .0) ∙ omega arith)
 
   pub here-room : (at : ℕ) → at ≡ sizes w (entriesAt w s 0 k) → at + 4 + getD s (at + 3) 0 + w ≤ length s

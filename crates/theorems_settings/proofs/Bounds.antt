@@ -7,12 +7,11 @@ use mathlib.Core.List.{List, [], _∷_, _++_}
 use native.Mathlib.Nat.{mul-suc}
 use native.Mathlib.Omega.{arith}
 use borrow.Author.Tests.{eq-eqb, ne-eqb, leb-true}
-use lib.Dec.{eqb, leb, ltb}
+use lib.Dec.{eqb}
 use lib.ListN.{length, length-append}
 use Rattle.standard.specs.declared.Version.{Version}
 use Rattle.standard.specs.Settings.{versionOne, versionIn, Entry, entryBytes, entriesBytes, entrySize, lastStart, orderly, junctions}
-use Rattle.standard.specs.Settings.{few, readable}
-use Rattle.standard.specs.Settings.{allReadable, lawful}
+use Rattle.standard.specs.Settings.{few, readable, allReadable, lawful}
 use Rattle.theorems_settings.specs.Walk.{rising}
 use Rattle.theorems_settings.specs.Settings.{Known}
 use Rattle.theorems_settings.proofs.Logic.{and-left, and-right}
@@ -25,7 +24,7 @@ use Rattle.theorems_settings.proofs.Readable.{readable-short}
 abbrev extra : Bool → ℕ
 extra b = cond b 1 0
 
-pub entries-few : (bar : ℕ) (follow : Bool) (es : List Entry) → rising bar follow es ≡ true → length es ≤ extra follow + 2 * junctions es
+entries-few : (bar : ℕ) (follow : Bool) (es : List Entry) → rising bar follow es ≡ true → length es ≤ extra follow + 2 * junctions es
 entries-few bar follow [] h = omega arith
 entries-few bar follow (e ∷ es) h =
     go (order-cases bar follow e (rising-head bar follow e es h))
@@ -42,7 +41,7 @@ entries-few bar follow (e ∷ es) h =
         omega (arith, kind-one e es (c .kind))
 
 -- an entry has at most 126 bytes beside its start
-pub bytes-few : (w k before at : ℕ) (es : List Entry) → 126 + w ≤ k → allReadable es ≡ true
+bytes-few : (w k before at : ℕ) (es : List Entry) → 126 + w ≤ k → allReadable es ≡ true
     → length (entriesBytes w before at es) ≤ k * length es
 unfolding entriesBytes allReadable
 bytes-few w k before at [] h a = omega arith
@@ -57,7 +56,7 @@ bytes-few w k before at (e ∷ es) h a =
     ∙ ap (λ (m : ℕ). m + length (entriesBytes w at (at + entrySize w e) es)) (length-entry w before e) in
     omega (arith, mul-suc k n)
 
-pub last-low : (w before at : ℕ) (es : List Entry) → before ≤ at → lastStart w before at es ≤ at + length (entriesBytes w before at es)
+last-low : (w before at : ℕ) (es : List Entry) → before ≤ at → lastStart w before at es ≤ at + length (entriesBytes w before at es)
 unfolding lastStart entriesBytes
 last-low w before at [] h = omega arith
 last-low w before at (e ∷ es) h =

@@ -9,7 +9,7 @@ use native.Mathlib.Decide.{decLt}
 use native.Mathlib.Omega.{arith}
 use lib.Dec.{eqb, ltb}
 use borrow.Author.Tests.{eq-eqb, ne-eqb}
-use Rattle.standard.specs.Settings.{Entry, find, there, below, above, entry, replace, junctions, readable, allReadable}
+use Rattle.standard.specs.Settings.{Entry, find, there, below, above, replace, junctions, readable, allReadable}
 use Rattle.theorems_settings.specs.Walk.{rising}
 use Rattle.theorems_settings.proofs.Logic.{and-left, and-right, both}
 use Rattle.theorems_settings.proofs.Shown.{find-cons, find-other, below-yes, below-no, above-yes, above-no}

@@ -29,7 +29,7 @@ length-more w before at e es =
     length-append (entryBytes w before e) (entriesBytes w at (at + entrySize w e) es)
     ∙ ap (λ (k : ℕ). k + length (entriesBytes w at (at + entrySize w e) es)) (length-entry w before e)
 
-pub layout-back : (w before at : ℕ) (es : List Entry) (pre post : List ℕ) (end last : ℕ) → length pre ≡ at
+layout-back : (w before at : ℕ) (es : List Entry) (pre post : List ℕ) (end last : ℕ) → length pre ≡ at
     → end ≡ at + length (entriesBytes w before at es)
     → last ≡ lastStart w before at es → before < 2 ^ (8 * w) → end ≤ 2 ^ (8 * w)
     → layout w (pre ++ (entriesBytes w before at es ++ post)) end last (length es) at before ≡ true
@@ -88,7 +88,7 @@ module _ (f : Version) (es : List Entry) where
       ap (λ (t : List ℕ). littleAt t n (f .start)) (sym (append-assoc bytes (little (f .count) (length es)) tail))
       ∙ little-back (f .start) last front (f .byte ∷ []) n e h
 
-  pub version-back : getD (fileOf f es) (length (fileOf f es) - 1) 0 ≡ f .byte
+  version-back : getD (fileOf f es) (length (fileOf f es) - 1) 0 ≡ f .byte
   unfolding fileOf
   version-back =
       let n : ℕ = length (fileOf f es) - 1 in

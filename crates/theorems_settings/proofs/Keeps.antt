@@ -7,14 +7,13 @@ use mathlib.Core.Bool.{Bool, true, false, cond, _&&_}
 use mathlib.Core.List.{List, [], _∷_, _++_}
 use native.Mathlib.Omega.{arith}
 use borrow.Author.Tests.{eqb-true, eqb-false, eq-eqb, le-leb, ltb-false, not-false}
-use lib.Dec.{T, eqb, ltb, leb}
+use lib.Dec.{T, eqb, ltb}
 use lib.ListN.{length, getD, take, drop, length-take}
 use Rattle.standard.specs.Lists.{listFrom}
 use Rattle.standard.specs.Cp.{cpBytes}
 use Rattle.standard.specs.Refusals.{emptyTest, emptyTests, rateTests, recordTests}
 use Rattle.standard.specs.Settings.{versionIn, Entry, littleAt, entryAt, nextAt, entriesAt, fileOf, entriesIn, settingsIn, find, there}
-use Rattle.standard.specs.Settings.{entry}
-use Rattle.standard.specs.Settings.{below, above, replace, put, back, putFile, backFile, same, asWritten, orderly, junctions, few, readable}
+use Rattle.standard.specs.Settings.{entry, below, above, replace, put, back, putFile, backFile, same, asWritten, junctions, few, readable}
 use Rattle.standard.specs.Settings.{allReadable, lawful, isFile, putTests, backTests}
 use Rattle.standard.specs.Calls.{accepted, PutCall, putRefusal, BackCall, backRefusal}
 use Rattle.standard.specs.declared.Record.{Record}
@@ -152,7 +151,7 @@ with-current j bar follow (e ∷ es) h t =
     go true q (inr c) ih = inr (c .may, omega (arith, eqb-true (e .junction) j q, c .same))
     go false q c ih = other (eqb-false (e .junction) j q) c ih
 
-pub current-there : (j : ℕ) (es : List Entry) → rising 0 false es ≡ true → there (find 1 j es) ≡ true → there (find 0 j es) ≡ true
+current-there : (j : ℕ) (es : List Entry) → rising 0 false es ≡ true → there (find 1 j es) ≡ true → there (find 0 j es) ≡ true
 current-there j es h t = go (with-current j 0 false es h t)
   where
     go : (there (find 0 j es) ≡ true) ⊎ ((false ≡ true) × (j + 1 ≡ 0)) → there (find 0 j es) ≡ true
@@ -176,7 +175,7 @@ pub one-readable : (j : ℕ) (x : List ℕ) → allReadable (entry 1 j (some x))
 unfolding entry allReadable
 one-readable j x a = and-left (readable x) true a
 
-pub replace-lawful : (v : Version) (j : ℕ) (cp : List ℕ) (p : Option (List ℕ)) (es : List Entry) → lawful v es ≡ true
+replace-lawful : (v : Version) (j : ℕ) (cp : List ℕ) (p : Option (List ℕ)) (es : List Entry) → lawful v es ≡ true
     → readable cp ≡ true → allReadable (entry 1 j p) ≡ true → few v (replace j (pair j (some cp) p) es) ≡ true
     → lawful v (replace j (pair j (some cp) p) es) ≡ true
 unfolding lawful

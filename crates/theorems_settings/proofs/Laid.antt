@@ -2,7 +2,7 @@
 use mathlib.Core.Path.{_≡_, refl, sym, ap, ap₂, _∙_}
 use mathlib.Core.Bool.{true, _&&_}
 use mathlib.Core.List.{List, [], _∷_, _++_, append-assoc}
-use Prim.Native.Nat.{ℕ, zero, suc, _+_, _-_, _<_, _≤_}
+use Prim.Native.Nat.{ℕ, zero, suc, _+_, _-_, _≤_}
 use native.Mathlib.Omega.{arith}
 use lib.Dec.{eqb, leb}
 use lib.ListN.{length, getD, take, drop, take-append-drop}
@@ -93,7 +93,7 @@ module _ (w : ℕ) (s : List ℕ) (b : Bytes s) where
       ∙ sym (append-assoc (entryBytes w before (entryAt s at)) (entriesBytes w at (at + entrySize w (entryAt s at)) es) (drop end s))
 
   -- a right layout: the bytes from `at` on are those of the entries that stand there
-  pub layout-split : (end last n at before : ℕ) → end ≤ length s → layout w s end last n at before ≡ true
+  layout-split : (end last n at before : ℕ) → end ≤ length s → layout w s end last n at before ≡ true
       → drop at s ≡ entriesBytes w before at (entriesAt w s at n) ++ drop end s
   unfolding layout entriesAt entriesBytes nextAt
   layout-split end last zero at before h e = ap (λ (k : ℕ). drop k s) (eqb-true at end (and-left (eqb at end) (eqb before last) e))
@@ -108,7 +108,7 @@ module _ (w : ℕ) (s : List ℕ) (b : Bytes s) where
   last-more end at before last es h p r =
       ap (λ (k : ℕ). lastStart w at k es) (size-at at (omega (arith, placed-next w s end at before p))) ∙ r
 
-  pub layout-last : (end last n at before : ℕ) → end ≤ length s → layout w s end last n at before ≡ true
+  layout-last : (end last n at before : ℕ) → end ≤ length s → layout w s end last n at before ≡ true
       → lastStart w before at (entriesAt w s at n) ≡ last
   unfolding layout entriesAt lastStart
   layout-last end last zero at before h e = eqb-true before last (and-right (eqb at end) (eqb before last) e)
@@ -116,7 +116,7 @@ module _ (w : ℕ) (s : List ℕ) (b : Bytes s) where
       last-more end at before last (entriesAt w s (nextAt w s at) n) h (and-left _ _ e)
       (layout-last end last n (nextAt w s at) at h (and-right (placed w s end at before) _ e))
 
-  pub length-entries : (n at : ℕ) → length (entriesAt w s at n) ≡ n
+  length-entries : (n at : ℕ) → length (entriesAt w s at n) ≡ n
   unfolding entriesAt
   length-entries zero at = refl
   length-entries (suc n) at = ap suc (length-entries n (nextAt w s at))

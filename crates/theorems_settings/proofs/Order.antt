@@ -106,11 +106,11 @@ order-cases bar follow e h =
               (e .junction + 1) bar (and-right (eqb (e .kind) 1 && follow) _ p);
         })
 
-pub current-in : (bar : ℕ) (follow : Bool) (e : Entry) → Current bar e → mayStand bar follow e ≡ true
+current-in : (bar : ℕ) (follow : Bool) (e : Entry) → Current bar e → mayStand bar follow e ≡ true
 unfolding mayStand
 current-in bar follow e c = or-left _ _ (both _ _ (eq-eqb (e .kind) 0 (c .kind)) (le-leb bar (e .junction) (c .low)))
 
-pub previous-in : (bar : ℕ) (follow : Bool) (e : Entry) → Previous bar follow e → mayStand bar follow e ≡ true
+previous-in : (bar : ℕ) (follow : Bool) (e : Entry) → Previous bar follow e → mayStand bar follow e ≡ true
 unfolding mayStand
 previous-in bar follow e c =
     or-right (eqb (e .kind) 0 && leb bar (e .junction)) _
@@ -131,7 +131,7 @@ unfolding rising
 rising-cons bar follow e es h t = both _ _ h t
 
 -- a lower bar lets more through, and so does following
-pub loosen : (bar bar′ : ℕ) (follow : Bool) (es : List Entry) → bar′ ≤ bar → rising bar false es ≡ true → rising bar′ follow es ≡ true
+loosen : (bar bar′ : ℕ) (follow : Bool) (es : List Entry) → bar′ ≤ bar → rising bar false es ≡ true → rising bar′ follow es ≡ true
 unfolding rising
 loosen bar bar′ follow [] l h = refl
 loosen bar bar′ follow (e ∷ es) l h =
@@ -171,7 +171,7 @@ below-none j bar follow (e ∷ es) l h =
     go (inr c) r = more (omega (arith, c .same)) r
 
 -- the part above j is in order by itself
-pub above-order : (j bar : ℕ) (follow : Bool) (es : List Entry) → bar ≤ j + 1 → rising bar follow es ≡ true
+above-order : (j bar : ℕ) (follow : Bool) (es : List Entry) → bar ≤ j + 1 → rising bar follow es ≡ true
     → rising (j + 1) false (above j es) ≡ true
 unfolding above rising
 above-order j bar follow [] l h = refl
@@ -197,7 +197,7 @@ above-order j bar follow (e ∷ es) l h =
     go (no b) r = ap (rising (j + 1) false) (above-no j e es (omega arith)) ∙ r (omega arith)
 
 -- what comes before may be put in front
-pub below-join : (j bar : ℕ) (follow : Bool) (es zs : List Entry) → bar ≤ j → rising bar follow es ≡ true → rising j false zs ≡ true
+below-join : (j bar : ℕ) (follow : Bool) (es zs : List Entry) → bar ≤ j → rising bar follow es ≡ true → rising j false zs ≡ true
     → rising bar follow (below j es ++ zs) ≡ true
 unfolding below
 below-join j bar follow [] zs l h z = loosen j bar follow zs l z
@@ -216,7 +216,7 @@ below-join j bar follow (e ∷ es) zs l h z =
         ap (λ (t : List Entry). rising bar follow (t ++ zs)) q ∙ loosen j bar follow zs l z
 
 -- a pair of j in front of what is above j
-pub pair-order : (j : ℕ) (cp : List ℕ) (p : Option (List ℕ)) (zs : List Entry) → rising (j + 1) false zs ≡ true
+pair-order : (j : ℕ) (cp : List ℕ) (p : Option (List ℕ)) (zs : List Entry) → rising (j + 1) false zs ≡ true
     → rising j false (pair j (some cp) p ++ zs) ≡ true
 unfolding entry
 pair-order j cp none zs h =

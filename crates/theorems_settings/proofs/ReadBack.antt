@@ -7,7 +7,7 @@ use lib.ListN.{length, getD, take, drop, length-append}
 use lib.Seq.{append-snoc, getD-append-seam, getD-append-add, drop-append-add, take-append-seam}
 use lib.Pow.{pow-add}
 use Rattle.standard.specs.Settings.{Entry, little, littleAt, entryAt, nextAt, entriesAt, entryBytes, entriesBytes, entrySize}
-use Rattle.theorems_settings.specs.Settings.{Small, Smalls}
+use Rattle.theorems_settings.specs.Settings.{Smalls}
 use Rattle.theorems_settings.proofs.Entries.{length-entry}
 
 -- a number read where it was written
@@ -44,7 +44,7 @@ module _ (w before : ℕ) (e : Entry) (pre post : List ℕ) (at : ℕ) (le : len
   place : (n : ℕ) → getD here (at + n) 0 ≡ getD ys n 0
   place n = ap₂ (λ (t : List ℕ) (m : ℕ). getD t (m + n) 0) is-ys (sym le) ∙ getD-append-add pre ys n 0
 
-  pub len-back : getD here (at + 3) 0 ≡ length (e .cp)
+  len-back : getD here (at + 3) 0 ≡ length (e .cp)
   unfolding little
   len-back = place 3
 
@@ -63,7 +63,7 @@ module _ (w before : ℕ) (e : Entry) (pre post : List ℕ) (at : ℕ) (le : len
       ap₂ take len-back (ap₂ (λ (t : List ℕ) (m : ℕ). drop (m + 4) t) is-ys (sym le) ∙ drop-append-add pre ys 4)
       ∙ take-append-seam (e .cp) (little w before ++ post)
 
-  pub entry-back : e .junction < 65536 → entryAt here at ≡ e
+  entry-back : e .junction < 65536 → entryAt here at ≡ e
   unfolding entryAt
   entry-back h = three (junction-back h) kind-back cp-back
     where

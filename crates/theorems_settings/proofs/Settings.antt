@@ -8,20 +8,17 @@ use mathlib.Core.List.{List, [], _∷_, _++_}
 use native.Mathlib.Nat.{eq-zero-or-pos}
 use native.Mathlib.Omega.{arith}
 use borrow.Author.Tests.{eqb-true, eqb-false, le-leb}
-use lib.Dec.{T, lit<, eqb, leb}
+use lib.Dec.{T, lit<, eqb}
 use lib.ListN.{length, take, drop}
 use lib.Seq.{take-append-seam}
 use Rattle.standard.specs.Lists.{listFrom, after}
 use Rattle.standard.specs.First.{bare, Test, test, first}
 use Rattle.standard.specs.Record.{noRecord}
-use Rattle.standard.specs.Bits.{bitAt}
-use Rattle.standard.specs.Cp.{cpBytes, recordIn}
+use Rattle.standard.specs.Cp.{cpBytes}
 use Rattle.standard.specs.Refusals.{emptyTest, emptyTests, rateTests, recordTests}
 use Rattle.standard.specs.Settings.{versionIn, Entry, fileOf, entriesIn, settingsIn, countIn, find, there, Shown, shown, put, backFile}
-use Rattle.standard.specs.Settings.{same}
-use Rattle.standard.specs.Settings.{asWritten, junctions, few, lawful, isFile, fileBroken, tooManyJunctions, settingMissing, putTests}
-use Rattle.standard.specs.Settings.{lookTests}
-use Rattle.standard.specs.Calls.{accepted, over, writtenLength, PutCall, putRefusal, putWrites, putLength, putOut, BackCall, backRefusal}
+use Rattle.standard.specs.Settings.{asWritten, junctions, few, lawful, isFile, putTests, lookTests}
+use Rattle.standard.specs.Calls.{accepted, over, PutCall, putRefusal, putWrites, putLength, putOut, BackCall, backRefusal}
 use Rattle.standard.specs.Calls.{backLength, backOut, lookRefusal, recordOf, lookRecord}
 use Rattle.standard.specs.declared.Record.{Record}
 use Rattle.standard.specs.declared.Version.{Version}
@@ -30,11 +27,9 @@ use Rattle.standard.proofs.First.{same-number, numbered, None, none-first, firs
 use Rattle.standard.proofs.Refusals.{record-numbered}
 use Rattle.theorems.specs.Runs.{overCalls}
 use Rattle.theorems_cp.specs.RoundTrip.{Shaped}
-use Rattle.theorems_settings.specs.Settings.{Bytes, Smalls, Known, Entries, FileIsEntries, FileCall, toPut, toGoBack, junctionOf}
-use Rattle.theorems_settings.specs.Settings.{Typed}
-use Rattle.theorems_settings.specs.Settings.{answerTo, accepts, lengthBy, outBy, fileAfter, entriesAfter, Kept, CallKeeps, AllTyped}
-use Rattle.theorems_settings.specs.Settings.{fileLeft, naming, shownIn, turned, turnedAll, Looks, Settled, CallsSettle}
-use Rattle.theorems_settings.specs.Settings.{NoJunctionMore}
+use Rattle.theorems_settings.specs.Settings.{Bytes, Entries, FileIsEntries, FileCall, toPut, toGoBack, junctionOf, Typed}
+use Rattle.theorems_settings.specs.Settings.{answerTo, accepts, lengthBy, outBy, fileAfter, entriesAfter, CallKeeps, AllTyped}
+use Rattle.theorems_settings.specs.Settings.{fileLeft, naming, shownIn, turned, turnedAll, Looks, CallsSettle, NoJunctionMore}
 use Rattle.theorems_settings.proofs.Logic.{and-left}
 use Rattle.theorems_settings.proofs.Shown.{put-current, put-previous, put-other, back-current, back-previous, back-other}
 use Rattle.theorems_settings.proofs.Readable.{record-back}

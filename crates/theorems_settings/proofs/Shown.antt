@@ -35,7 +35,7 @@ first-cond : (b : Bool) (x : Cp) (y z : Cp) (cp : List ℕ) → x ≡ first y z 
 first-cond true x y z cp e = refl
 first-cond false x y z cp e = e
 
-pub find-append : (k j : ℕ) (xs ys : List Entry) → find k j (xs ++ ys) ≡ first (find k j xs) (find k j ys)
+find-append : (k j : ℕ) (xs ys : List Entry) → find k j (xs ++ ys) ≡ first (find k j xs) (find k j ys)
 unfolding find
 find-append k j [] ys = refl
 find-append k j (e ∷ xs) ys =
@@ -76,7 +76,7 @@ pub above-no : (j : ℕ) (e : Entry) (es : List Entry) → e .junction ≤ j →
 above-no j e es h = above-cons j e es ∙ ap (λ (b : Bool). cond b (e ∷ above j es) (above j es)) (le-ltb j (e .junction) h)
 
 -- what is found in the part below: all that is below, and nothing else
-pub find-below : (k i j : ℕ) (es : List Entry) → i < j → find k i (below j es) ≡ find k i es
+find-below : (k i j : ℕ) (es : List Entry) → i < j → find k i (below j es) ≡ find k i es
 unfolding below
 find-below k i j [] h = refl
 find-below k i j (e ∷ es) h = go (find-below k i j es h) (decLt (e .junction) j)
@@ -85,7 +85,7 @@ find-below k i j (e ∷ es) h = go (find-below k i j es h) (decLt (e .junction) 
     go rest (yes l) = ap (find k i) (below-yes j e es l) ∙ find-same-head k i e (below j es) es rest
     go rest (no l) = ap (find k i) (below-no j e es (omega arith)) ∙ rest ∙ sym (find-other k i e es (λ q. omega arith))
 
-pub find-above : (k i j : ℕ) (es : List Entry) → j < i → find k i (above j es) ≡ find k i es
+find-above : (k i j : ℕ) (es : List Entry) → j < i → find k i (above j es) ≡ find k i es
 unfolding above
 find-above k i j [] h = refl
 find-above k i j (e ∷ es) h = go (find-above k i j es h) (decLt j (e .junction))
@@ -94,7 +94,7 @@ find-above k i j (e ∷ es) h = go (find-above k i j es h) (decLt j (e .junction
     go rest (yes l) = ap (find k i) (above-yes j e es l) ∙ find-same-head k i e (above j es) es rest
     go rest (no l) = ap (find k i) (above-no j e es (omega arith)) ∙ rest ∙ sym (find-other k i e es (λ q. omega arith))
 
-pub none-below : (k i j : ℕ) (es : List Entry) → j ≤ i → find k i (below j es) ≡ none
+none-below : (k i j : ℕ) (es : List Entry) → j ≤ i → find k i (below j es) ≡ none
 unfolding below find
 none-below k i j [] h = refl
 none-below k i j (e ∷ es) h = go (none-below k i j es h) (decLt (e .junction) j)
@@ -103,7 +103,7 @@ none-below k i j (e ∷ es) h = go (none-below k i j es h) (decLt (e .junction) 
     go rest (yes l) = ap (find k i) (below-yes j e es l) ∙ find-other k i e (below j es) (λ q. omega arith) ∙ rest
     go rest (no l) = ap (find k i) (below-no j e es (omega arith)) ∙ rest
 
-pub none-above : (k i j : ℕ) (es : List Entry) → i ≤ j → find k i (above j es) ≡ none
+none-above : (k i j : ℕ) (es : List Entry) → i ≤ j → find k i (above j es) ≡ none
 unfolding above find
 none-above k i j [] h = refl
 none-above k i j (e ∷ es) h = go (none-above k i j es h) (decLt j (e .junction))
@@ -119,13 +119,13 @@ unfolding replace
 find-three k i j new es =
     find-append k i (below j es) (new ++ above j es) ∙ ap (first (find k i (below j es))) (find-append k i new (above j es))
 
-pub find-new : (k j : ℕ) (new es : List Entry) → find k j (replace j new es) ≡ find k j new
+find-new : (k j : ℕ) (new es : List Entry) → find k j (replace j new es) ≡ find k j new
 find-new k j new es =
     find-three k j j new es
     ∙ ap₂ (λ (x y : Cp). first x (first (find k j new) y)) (none-below k j j es (omega arith)) (none-above k j j es (omega arith))
     ∙ first-none (find k j new)
 
-pub find-kept : (k i j : ℕ) (new es : List Entry) → (i ≡ j → ⊥) → find k i new ≡ none → find k i (replace j new es) ≡ find k i es
+find-kept : (k i j : ℕ) (new es : List Entry) → (i ≡ j → ⊥) → find k i new ≡ none → find k i (replace j new es) ≡ find k i es
 find-kept k i j new es h q = find-three k i j new es ∙ go (decLt i j)
   where
     go : Dec (i < j) → first (find k i (below j es)) (first (find k i new) (find k i (above j es))) ≡ find k i es
@@ -152,15 +152,15 @@ unfolding entry find
 entry-other k l i j none h = refl
 entry-other k l i j (some cp) h = find-other k i (record { junction = j; kind = l; cp = cp }) [] (λ q. h (sym q))
 
-pub pair-current : (j : ℕ) (x y : Cp) → find 0 j (pair j x y) ≡ x
+pair-current : (j : ℕ) (x y : Cp) → find 0 j (pair j x y) ≡ x
 pair-current j x y =
     find-append 0 j (entry 0 j x) (entry 1 j y) ∙ ap₂ first (entry-found 0 j x) (entry-other-kind 0 1 j y (λ q. omega arith)) ∙ first-none x
 
-pub pair-previous : (j : ℕ) (x y : Cp) → find 1 j (pair j x y) ≡ y
+pair-previous : (j : ℕ) (x y : Cp) → find 1 j (pair j x y) ≡ y
 pair-previous j x y =
     find-append 1 j (entry 0 j x) (entry 1 j y) ∙ ap₂ first (entry-other-kind 1 0 j x (λ q. omega arith)) (entry-found 1 j y)
 
-pub pair-other : (k i j : ℕ) (x y : Cp) → (i ≡ j → ⊥) → find k i (pair j x y) ≡ none
+pair-other : (k i j : ℕ) (x y : Cp) → (i ≡ j → ⊥) → find k i (pair j x y) ≡ none
 pair-other k i j x y h =
     find-append k i (entry 0 j x) (entry 1 j y) ∙ ap₂ first (entry-other k 0 i j x h) (entry-other k 1 i j y h)
 

@@ -1,5 +1,5 @@
 -- Each current entry is counted. Assumes nothing.
-use Prim.Native.Nat.{ℕ, _+_, _-_, _≤_}
+use Prim.Native.Nat.{_+_, _-_, _≤_}
 use native.Mathlib.Omega.{arith}
 use lib.ListN.{length, getD}
 use Rattle.standard.specs.Settings.{entryAt, junctions}

@@ -1,7 +1,6 @@
 -- One entry a turn. Assumes nothing.
 use Prim.Native.Nat.{_-_}
 use native.Mathlib.Omega.{arith}
-use borrow.Author.Needs.{needs}
 use Rattle.rewriting.proofs.Joining.{Copied, copied-none, copied-more, copied-long, copied-all, entry-there, entry-room}
 use Rattle.rewriting.proofs.copy_entries.Statement.{statement}
 use Rattle.rewriting.proofs.copy_entries.Tie as tie

@@ -13,36 +13,6 @@ use Rattle.rewriting.proofs.Joining.{lays-one}
 use Rattle.rewriting.proofs.copy_entry.Statement.{statement}
 use Rattle.rewriting.proofs.copy_entry.Tie as tie
 
-add-wide : tie.Need-add-wide
-add-wide c = search needs
-
-shared-slice-read-wide : tie.Need-shared-slice-read-wide
-shared-slice-read-wide c = search needs
-
-wide-requires : tie.Need-wide-requires
-wide-requires c κs = search needs
-
-add-len : tie.Need-add-len
-add-len c = search needs
-
-copy-bytes-requires : tie.Need-copy-bytes-requires
-copy-bytes-requires c κs = search needs
-
-add-put-number : tie.Need-add-put-number
-add-put-number c = search needs
-
-put-number-requires : tie.Need-put-number-requires
-put-number-requires c κs = search needs
-
-add-t9 : tie.Need-add-t9
-add-t9 c = search needs
-
-add-t8 : tie.Need-add-t8
-add-t8 c = search needs
-
-same-length : tie.Need-same-length
-same-length c = search needs
-
 returns : tie.Need-returns
 returns c =
     let copied = c .before .before .before .before .before .before in
@@ -62,15 +32,5 @@ returns c =
 pub copy-entry-spec : {M : Type 1} → statement M
 copy-entry-spec =
     tie.close
-    (tie.spec
-    add-wide
-    shared-slice-read-wide
-    wide-requires
-    add-len
-    copy-bytes-requires
-    add-put-number
-    put-number-requires
-    add-t9
-    add-t8
-    same-length
-    returns)
+    (tie.spec (λ c. search needs) (λ c. search needs) (λ c κs. search needs) (λ c. search needs) (λ c κs. search needs)
+    (λ c. search needs) (λ c κs. search needs) (λ c. search needs) (λ c. search needs) (λ c. search needs) returns)

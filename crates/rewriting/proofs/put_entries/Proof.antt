@@ -49,9 +49,6 @@ copy-entries-requires-2 c κs =
           (own .put-previous .ensures),
     )
 
-same-length : tie.Need-same-length
-same-length c = search needs
-
 returns : tie.Need-returns
 returns c =
     let own = c .before .before .before .before .before .before in
@@ -67,10 +64,4 @@ returns c =
 pub put-entries-spec : {M : Type 1} → statement M
 put-entries-spec =
     tie.close
-    (tie.spec
-    copy-entries-requires
-    put-entry-requires
-    put-previous-requires
-    copy-entries-requires-2
-    same-length
-    returns)
+    (tie.spec copy-entries-requires put-entry-requires put-previous-requires copy-entries-requires-2 (λ c. search needs) returns)

@@ -19,9 +19,6 @@ put-entry-requires c κs =
       omega arith,
     )
 
-same-length : tie.Need-same-length
-same-length c = search needs
-
 returns : tie.Need-returns
 returns c =
     let entry = c .before .before in
@@ -35,4 +32,4 @@ returns-2 c =
     given-no (a .w) (a .out .now) (a .p) (a .junction) (a .cp .now) (a .has) (c .if1 .left)
 
 pub put-previous-spec : {M : Type 1} → statement M
-put-previous-spec = tie.close (tie.spec put-entry-requires same-length returns returns-2)
+put-previous-spec = tie.close (tie.spec put-entry-requires (λ c. search needs) returns returns-2)

@@ -5,30 +5,6 @@ use Rattle.rewriting.proofs.Afresh.{trailer-laid}
 use Rattle.rewriting.proofs.put_trailer.Statement.{statement}
 use Rattle.rewriting.proofs.put_trailer.Tie as tie
 
-wide-requires : tie.Need-wide-requires
-wide-requires c κs = search needs
-
-put-number-requires : tie.Need-put-number-requires
-put-number-requires c κs = search needs
-
-add-put-number : tie.Need-add-put-number
-add-put-number c = search needs
-
-put-number-requires-2 : tie.Need-put-number-requires-2
-put-number-requires-2 c κs = search needs
-
-add-put-number-2 : tie.Need-add-put-number-2
-add-put-number-2 c = search needs
-
-add-put-number-3 : tie.Need-add-put-number-3
-add-put-number-3 c = search needs
-
-put-number-requires-3 : tie.Need-put-number-requires-3
-put-number-requires-3 c κs = search needs
-
-same-length : tie.Need-same-length
-same-length c = search needs
-
 returns : tie.Need-returns
 returns c =
     let a = c .before .before .before .before .before .before .before .before .before .before .before .before .before .before .args in
@@ -41,13 +17,5 @@ returns c =
 pub put-trailer-spec : {M : Type 1} → statement M
 put-trailer-spec =
     tie.close
-    (tie.spec
-    wide-requires
-    put-number-requires
-    add-put-number
-    put-number-requires-2
-    add-put-number-2
-    add-put-number-3
-    put-number-requires-3
-    same-length
-    returns)
+    (tie.spec (λ c κs. search needs) (λ c κs. search needs) (λ c. search needs) (λ c κs. search needs) (λ c. search needs)
+    (λ c. search needs) (λ c κs. search needs) (λ c. search needs) returns)

@@ -4,7 +4,6 @@ use mathlib.Core.List.{List}
 use Prim.Native.Nat.{ℕ, _+_, _-_}
 use native.Mathlib.Omega.{arith}
 use borrow.Author.Needs.{needs}
-use lib.ListN.{length}
 use Rattle.standard.specs.Settings.{Entry}
 use Rattle.theorems_settings.proofs.FileBack.{length-file}
 use Rattle.entries.specs.Entries.{sizes}
@@ -56,20 +55,11 @@ size-of-requires c κs =
     let p = c .before .before .before .before .pre in
     (upto-inside (a .v) (a .s .now) (a .n) (a .k) (a .u) (p .0) (p .1 .0 .2) (p .1 .0 .3), (omega arith, omega arith, omega arith))
 
-sub-m : tie.Need-sub-m
-sub-m c = search needs
-
 size-of-requires-2 : tie.Need-size-of-requires-2
 size-of-requires-2 c κs =
     let a = begin c .args in
     let p = begin c .pre in
     (front-inside (a .v) (a .s .now) (a .n) (a .k) (a .u) (p .0) (p .1 .0 .2) (p .1 .0 .3), (omega arith, omega arith, omega arith))
-
-own-size-requires : tie.Need-own-size-requires
-own-size-requires c κs = search needs
-
-add-body : tie.Need-add-body
-add-body c = search needs
 
 size-of-requires-3 : tie.Need-size-of-requires-3
 size-of-requires-3 c κs =
@@ -79,18 +69,6 @@ size-of-requires-3 c κs =
       rest-inside (a .v) (a .s .now) (a .n) (a .k) (a .u) (p .0) (p .1 .0 .2) (p .1 .0 .3) _ (upto .size-of .ensures .0),
       (omega arith, omega arith, omega arith),
     )
-
-add-body-2 : tie.Need-add-body-2
-add-body-2 c = search needs
-
-add-length : tie.Need-add-length
-add-length c = search needs
-
-add-length-2 : tie.Need-add-length-2
-add-length-2 c = search needs
-
-add-length-3 : tie.Need-add-length-3
-add-length-3 c = search needs
 
 returns : tie.Need-returns
 returns c =
@@ -113,12 +91,6 @@ put-entries-requires c κs =
       (omega (arith, e, body (c .before .before)), (omega arith, omega arith)),
     )
 
-one-if-requires : tie.Need-one-if-requires
-one-if-requires c κs = search needs
-
-add-put-trailer : tie.Need-add-put-trailer
-add-put-trailer c = search needs
-
 add-put-trailer-2 : tie.Need-add-put-trailer-2
 add-put-trailer-2 c =
     let p = c .before .before .before .before .before .before .before .before .before .before .before .before .before .before .before .pre in
@@ -133,9 +105,6 @@ put-trailer-requires : tie.Need-put-trailer-requires
 put-trailer-requires c κs =
     let p = c .before .before .before .before .before .before .before .before .before .before .before .before .before .before .before .pre in
     (omega (arith, c .before .before .before .before .before .before .if1 .left, c .before .before .before .before .put-entries .kept .0), p .1 .1 .0 .0, p .1 .1 .0 .1)
-
-same-length : tie.Need-same-length
-same-length c = search needs
 
 returns-2 : tie.Need-returns-2
 returns-2 c =
@@ -155,23 +124,6 @@ returns-2 c =
 pub written-spec : {M : Type 1} → statement M
 written-spec =
     tie.close
-    (tie.spec
-    size-of-requires
-    sub-m
-    size-of-requires-2
-    own-size-requires
-    add-body
-    size-of-requires-3
-    add-body-2
-    add-length
-    add-length-2
-    add-length-3
-    returns
-    put-entries-requires
-    one-if-requires
-    add-put-trailer
-    add-put-trailer-2
-    add-put-trailer-3
-    put-trailer-requires
-    same-length
-    returns-2)
+    (tie.spec size-of-requires (λ c. search needs) size-of-requires-2 (λ c κs. search needs) (λ c. search needs) size-of-requires-3
+    (λ c. search needs) (λ c. search needs) (λ c. search needs) (λ c. search needs) returns put-entries-requires (λ c κs. search needs)
+    (λ c. search needs) add-put-trailer-2 add-put-trailer-3 put-trailer-requires (λ c. search needs) returns-2)

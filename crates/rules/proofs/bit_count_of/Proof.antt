@@ -15,22 +15,9 @@ returns c =
     let z : (n - 37) / 17 ≡ 0 = omega arith in
     (sym (ap (λ (g : ℕ). cpLength g) z), omega arith)
 
-mul-result : tie.Need-mul-result
-mul-result c = search needs
-
-add-result : tie.Need-add-result
-add-result c = search needs
-
-add-result-2 : tie.Need-add-result-2
-add-result-2 c = search needs
-
-mul-result-2 : tie.Need-mul-result-2
-mul-result-2 c = search needs
-
 returns-2 : tie.Need-returns-2
 unfolding bitCountOf
 returns-2 c = (refl, omega arith)
 
 pub bit-count-of-spec : {M : Type 1} → statement M
-bit-count-of-spec =
-    tie.close (tie.spec returns mul-result add-result add-result-2 mul-result-2 returns-2)
+bit-count-of-spec = tie.close (tie.spec returns (λ c. search needs) (λ c. search needs) (λ c. search needs) (λ c. search needs) returns-2)

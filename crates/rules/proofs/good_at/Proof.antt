@@ -1,9 +1,8 @@
 -- In order, and its CP readable. Assumes nothing.
 use borrow.Author.Needs.{needs}
-use mathlib.Core.Path.{_≡_, ap, _∙_}
+use mathlib.Core.Path.{_≡_, ap, _∙_, ap₂}
 use native.Mathlib.Omega.{arith}
 use Prim.Native.Nat.{ℕ, _+_, _-_}
-use mathlib.Core.Path.{ap₂}
 use mathlib.Core.Bool.{_&&_, _||_}
 use lib.Dec.{eqb, leb}
 use lib.ListN.{getD, take, drop}
@@ -11,42 +10,6 @@ use Rattle.standard.specs.Settings.{readable, entryAt}
 use Rattle.theorems_settings.specs.Walk.{mayStand, goodAt}
 use Rattle.rules.proofs.good_at.Statement.{statement}
 use Rattle.rules.proofs.good_at.Tie as tie
-
-add-from : tie.Need-add-from
-add-from c = search needs
-
-add-wide : tie.Need-add-wide
-add-wide c = search needs
-
-shared-slice-read-wide : tie.Need-shared-slice-read-wide
-shared-slice-read-wide c = search needs
-
-wide-requires : tie.Need-wide-requires
-wide-requires c κs = search needs
-
-add-to : tie.Need-add-to
-add-to c = search needs
-
-sub-readable-cp : tie.Need-sub-readable-cp
-sub-readable-cp c = search needs
-
-part-readable-cp-start : tie.Need-part-readable-cp-start
-part-readable-cp-start c = search needs
-
-part-readable-cp-end : tie.Need-part-readable-cp-end
-part-readable-cp-end c = search needs
-
-readable-cp-requires : tie.Need-readable-cp-requires
-readable-cp-requires c κs = search needs
-
-number-at-requires : tie.Need-number-at-requires
-number-at-requires c κs = search needs
-
-add-in-order : tie.Need-add-in-order
-add-in-order c = search needs
-
-shared-slice-read-in-order : tie.Need-shared-slice-read-in-order
-shared-slice-read-in-order c = search needs
 
 in-order-requires : tie.Need-in-order-requires
 in-order-requires c κs = omega arith
@@ -66,18 +29,6 @@ returns c =
 pub good-at-spec : {M : Type 1} → statement M
 good-at-spec =
     tie.close
-    (tie.spec
-    add-from
-    add-wide
-    shared-slice-read-wide
-    wide-requires
-    add-to
-    sub-readable-cp
-    part-readable-cp-start
-    part-readable-cp-end
-    readable-cp-requires
-    number-at-requires
-    add-in-order
-    shared-slice-read-in-order
-    in-order-requires
-    returns)
+    (tie.spec (λ c. search needs) (λ c. search needs) (λ c. search needs) (λ c κs. search needs) (λ c. search needs) (λ c. search needs)
+    (λ c. search needs) (λ c. search needs) (λ c κs. search needs) (λ c κs. search needs) (λ c. search needs) (λ c. search needs)
+    in-order-requires returns)

@@ -15,15 +15,6 @@ use Rattle.rules.proofs.is_file.Tie as tie
 bytes : (c : tie.After-version-in) → Bytes (c .before .before .args .s .now)
 bytes c i = c .before .shared-slice-known .given i .fits
 
-version-in-requires : tie.Need-version-in-requires
-version-in-requires c κs = search needs
-
-add-if1 : tie.Need-add-if1
-add-if1 c = search needs
-
-add-if1-2 : tie.Need-add-if1-2
-add-if1-2 c = search needs
-
 returns : tie.Need-returns
 returns c =
     let start = c .before in
@@ -31,39 +22,12 @@ returns c =
     let v = start .version-in .result in
     file-by v s false (bytes start) (start .version-in .ensures .0) (file-short v s (omega arith))
 
-sub-if2 : tie.Need-sub-if2
-sub-if2 c = search needs
-
-shared-slice-read-if2 : tie.Need-shared-slice-read-if2
-shared-slice-read-if2 c = search needs
-
 returns-2 : tie.Need-returns-2
 returns-2 c =
     let start = c .before .before .before .before in
     let s = start .before .before .args .s .now in
     let v = start .version-in .result in
     file-by v s false (bytes start) (start .version-in .ensures .0) (file-version v s (omega arith) (c .if2 .taken))
-
-add-end : tie.Need-add-end
-add-end c = search needs
-
-add-end-2 : tie.Need-add-end-2
-add-end-2 c = search needs
-
-sub-end : tie.Need-sub-end
-sub-end c = search needs
-
-number-at-requires : tie.Need-number-at-requires
-number-at-requires c κs = search needs
-
-add-number-at : tie.Need-add-number-at
-add-number-at c = search needs
-
-sub-number-at : tie.Need-sub-number-at
-sub-number-at c = search needs
-
-number-at-requires-2 : tie.Need-number-at-requires-2
-number-at-requires-2 c κs = search needs
 
 entries-good-requires : tie.Need-entries-good-requires
 entries-good-requires c κs =
@@ -85,20 +49,6 @@ returns-3 c =
 pub is-file-spec : {M : Type 1} → statement M
 is-file-spec =
     tie.close
-    (tie.spec
-    version-in-requires
-    add-if1
-    add-if1-2
-    returns
-    sub-if2
-    shared-slice-read-if2
-    returns-2
-    add-end
-    add-end-2
-    sub-end
-    number-at-requires
-    add-number-at
-    sub-number-at
-    number-at-requires-2
-    entries-good-requires
-    returns-3)
+    (tie.spec (λ c κs. search needs) (λ c. search needs) (λ c. search needs) returns (λ c. search needs) (λ c. search needs) returns-2
+    (λ c. search needs) (λ c. search needs) (λ c. search needs) (λ c κs. search needs) (λ c. search needs) (λ c. search needs)
+    (λ c κs. search needs) entries-good-requires returns-3)

@@ -14,12 +14,6 @@ size-of-requires c κs =
     let p = c .before .before .pre in
     (upto-here (a .w) (a .s .now) (a .k) (p .0 (c .if1 .taken)), (omega arith, omega arith, omega arith))
 
-add-from : tie.Need-add-from
-add-from c = search needs
-
-add-wide : tie.Need-add-wide
-add-wide c = search needs
-
 shared-slice-read-wide : tie.Need-shared-slice-read-wide
 shared-slice-read-wide c =
     let a = c .before .before .before .before .args in
@@ -29,12 +23,6 @@ shared-slice-read-wide c =
       here-room (a .w) (a .s .now) (a .k) (p .0 (c .before .before .if1 .taken)) (c .before .size-of .result)
           (c .before .size-of .ensures .0),
     )
-
-wide-requires : tie.Need-wide-requires
-wide-requires c κs = search needs
-
-add-t12 : tie.Need-add-t12
-add-t12 c = search needs
 
 returns : tie.Need-returns
 returns c =
@@ -54,12 +42,5 @@ returns-2 c = ((omega arith, omega arith, omega arith), λ z. absurd (true≢fal
 pub cp-place-spec : {M : Type 1} → statement M
 cp-place-spec =
     tie.close
-    (tie.spec
-    size-of-requires
-    add-from
-    add-wide
-    shared-slice-read-wide
-    wide-requires
-    add-t12
-    returns
-    returns-2)
+    (tie.spec size-of-requires (λ c. search needs) (λ c. search needs) shared-slice-read-wide (λ c κs. search needs) (λ c. search needs)
+    returns returns-2)

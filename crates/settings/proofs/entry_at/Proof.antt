@@ -5,9 +5,6 @@ use Rattle.settings.proofs.Reading.{there-room, entry-yes, entry-no}
 use Rattle.settings.proofs.entry_at.Statement.{statement}
 use Rattle.settings.proofs.entry_at.Tie as tie
 
-entry-there-requires : tie.Need-entry-there-requires
-entry-there-requires c κs = search needs
-
 read-entry-requires : tie.Need-read-entry-requires
 read-entry-requires c κs =
     let a = c .before .before .before .args in
@@ -19,9 +16,6 @@ returns c =
     let a = there .before .before .args in
     entry-yes (a .file .now) (a .at) _ (sym (c .before .if1 .taken) ∙ there .entry-there .ensures) (c .read-entry .ensures)
 
-refused-requires : tie.Need-refused-requires
-refused-requires c κs = search needs
-
 returns-2 : tie.Need-returns-2
 returns-2 c =
     let there = c .before .before .before in
@@ -29,6 +23,4 @@ returns-2 c =
     entry-no (a .file .now) (a .at) _ (sym (c .before .before .if1 .left) ∙ there .entry-there .ensures) (c .before .refused .ensures .1)
 
 pub entry-at-spec : {M : Type 1} → statement M
-entry-at-spec =
-    tie.close
-    (tie.spec entry-there-requires read-entry-requires returns refused-requires returns-2)
+entry-at-spec = tie.close (tie.spec (λ c κs. search needs) read-entry-requires returns (λ c κs. search needs) returns-2)

@@ -14,15 +14,6 @@ use Rattle.settings.proofs.found_in.Tie as tie
 laid : (c : tie.After-version-in) → isLaid (versionIn (c .before .before .args .s .now)) (c .before .before .args .s .now) ≡ true
 laid c = laid-is (c .before .before .args .s .now) (λ i. c .before .shared-slice-known .given i .fits) ∙ c .before .before .pre .0
 
-version-in-requires : tie.Need-version-in-requires
-version-in-requires c κs = search needs
-
-add-number-at : tie.Need-add-number-at
-add-number-at c = search needs
-
-add-number-at-2 : tie.Need-add-number-at-2
-add-number-at-2 c = search needs
-
 sub-number-at : tie.Need-sub-number-at
 sub-number-at c =
     let v = c .version-in in
@@ -39,9 +30,6 @@ count-below-requires c κs =
       found-inside (c .before .before .before .args .s .now) (laid (c .before)) (v .result) (v .ensures .0) _ (c .number-at .ensures .0),
       (two-bytes _ (v .result .count) (v .ensures .2) (c .number-at .ensures .1), v .ensures .1),
     )
-
-add-count-below : tie.Need-add-count-below
-add-count-below c = search needs
 
 count-below-requires-2 : tie.Need-count-below-requires-2
 count-below-requires-2 c κs =
@@ -66,13 +54,5 @@ returns c =
 pub found-in-spec : {M : Type 1} → statement M
 found-in-spec =
     tie.close
-    (tie.spec
-    version-in-requires
-    add-number-at
-    add-number-at-2
-    sub-number-at
-    number-at-requires
-    count-below-requires
-    add-count-below
-    count-below-requires-2
-    returns)
+    (tie.spec (λ c κs. search needs) (λ c. search needs) (λ c. search needs) sub-number-at number-at-requires count-below-requires
+    (λ c. search needs) count-below-requires-2 returns)

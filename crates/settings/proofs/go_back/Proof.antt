@@ -20,12 +20,6 @@ use Rattle.settings.proofs.go_back.Tie as tie
 valid : (c : tie.Else1) → isFile (c .before .before .before .before .args .file .now) ≡ true
 valid c = sym (c .before .is-file .ensures) ∙ not-false _ (c .if1 .left)
 
-is-file-requires : tie.Need-is-file-requires
-is-file-requires c κs = search needs
-
-refused-requires : tie.Need-refused-requires
-refused-requires c κs = search needs
-
 returns : tie.Need-returns
 unfolding backLength backOut
 returns c =
@@ -38,12 +32,6 @@ returns c =
 
 found-in-requires : tie.Need-found-in-requires
 found-in-requires c κs = (valid c, omega arith)
-
-add-if2 : tie.Need-add-if2
-add-if2 c = search needs
-
-refused-requires-2 : tie.Need-refused-requires-2
-refused-requires-2 c κs = search needs
 
 returns-2 : tie.Need-returns-2
 unfolding backLength backOut
@@ -71,9 +59,6 @@ cp-place-requires c κs =
       e .start,
     )
 
-add-cp-place : tie.Need-add-cp-place
-add-cp-place c = search needs
-
 cp-place-requires-2 : tie.Need-cp-place-requires-2
 cp-place-requires-2 c κs =
     let a = c .before .before .before .before .before .before .before .before .args in
@@ -84,24 +69,6 @@ cp-place-requires-2 c κs =
       omega (arith, c .before .if2 .left, e .endLow, e .few),
       e .start,
     )
-
-sub-written : tie.Need-sub-written
-sub-written c = search needs
-
-part-written-start : tie.Need-part-written-start
-part-written-start c = search needs
-
-part-written-end : tie.Need-part-written-end
-part-written-end c = search needs
-
-sub-written-2 : tie.Need-sub-written-2
-sub-written-2 c = search needs
-
-part-written-start-2 : tie.Need-part-written-start-2
-part-written-start-2 c = search needs
-
-part-written-end-2 : tie.Need-part-written-end-2
-part-written-end-2 c = search needs
 
 written-requires : tie.Need-written-requires
 written-requires c κs =
@@ -121,9 +88,6 @@ written-requires c κs =
         ),
       ),
     )
-
-same-length : tie.Need-same-length
-same-length c = search needs
 
 returns-3 : tie.Need-returns-3
 unfolding backLength backOut
@@ -145,23 +109,6 @@ returns-3 c =
 pub go-back-spec : {M : Type 1} → statement M
 go-back-spec =
     tie.close
-    (tie.spec
-    is-file-requires
-    refused-requires
-    returns
-    found-in-requires
-    add-if2
-    refused-requires-2
-    returns-2
-    cp-place-requires
-    add-cp-place
-    cp-place-requires-2
-    sub-written
-    part-written-start
-    part-written-end
-    sub-written-2
-    part-written-start-2
-    part-written-end-2
-    written-requires
-    same-length
-    returns-3)
+    (tie.spec (λ c κs. search needs) (λ c κs. search needs) returns found-in-requires (λ c. search needs) (λ c κs. search needs) returns-2
+    cp-place-requires (λ c. search needs) cp-place-requires-2 (λ c. search needs) (λ c. search needs) (λ c. search needs)
+    (λ c. search needs) (λ c. search needs) (λ c. search needs) written-requires (λ c. search needs) returns-3)

@@ -18,12 +18,6 @@ use Rattle.settings.proofs.look_up.Tie as tie
 valid : (c : tie.Else1) → isFile (c .before .before .before .args .file .now) ≡ true
 valid c = sym (c .before .is-file .ensures) ∙ not-false _ (c .if1 .left)
 
-is-file-requires : tie.Need-is-file-requires
-is-file-requires c κs = search needs
-
-refused-requires : tie.Need-refused-requires
-refused-requires c κs = search needs
-
 returns : tie.Need-returns
 returns c =
     let a = c .before .before .before .before .args in
@@ -32,9 +26,6 @@ returns c =
 
 found-in-requires : tie.Need-found-in-requires
 found-in-requires c κs = (valid c, omega arith)
-
-refused-requires-2 : tie.Need-refused-requires-2
-refused-requires-2 c κs = search needs
 
 returns-2 : tie.Need-returns-2
 returns-2 c =
@@ -57,24 +48,6 @@ cp-place-requires c κs =
       e .start,
     )
 
-sub-read-cp : tie.Need-sub-read-cp
-sub-read-cp c = search needs
-
-part-read-cp-start : tie.Need-part-read-cp-start
-part-read-cp-start c = search needs
-
-part-read-cp-end : tie.Need-part-read-cp-end
-part-read-cp-end c = search needs
-
-sub-bit-count-of : tie.Need-sub-bit-count-of
-sub-bit-count-of c = search needs
-
-bit-count-of-requires : tie.Need-bit-count-of-requires
-bit-count-of-requires c κs = search needs
-
-read-cp-requires : tie.Need-read-cp-requires
-read-cp-requires c κs = search needs
-
 returns-3 : tie.Need-returns-3
 returns-3 c =
     let a = c .before .before .before .before .before .before .before .before .before .before .before .args in
@@ -92,18 +65,6 @@ returns-3 c =
 pub look-up-spec : {M : Type 1} → statement M
 look-up-spec =
     tie.close
-    (tie.spec
-    is-file-requires
-    refused-requires
-    returns
-    found-in-requires
-    refused-requires-2
-    returns-2
-    cp-place-requires
-    sub-read-cp
-    part-read-cp-start
-    part-read-cp-end
-    sub-bit-count-of
-    bit-count-of-requires
-    read-cp-requires
+    (tie.spec (λ c κs. search needs) (λ c κs. search needs) returns found-in-requires (λ c κs. search needs) returns-2 cp-place-requires
+    (λ c. search needs) (λ c. search needs) (λ c. search needs) (λ c. search needs) (λ c κs. search needs) (λ c κs. search needs)
     returns-3)

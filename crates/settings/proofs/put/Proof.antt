@@ -1,5 +1,5 @@
 -- The record's own refusals, then its CP is put. Assumes nothing.
-use mathlib.Core.Path.{_≡_, refl, sym, ap, _∙_}
+use mathlib.Core.Path.{refl, ap, _∙_}
 use Prim.Native.Nat.{ℕ, _-_}
 use mathlib.Core.List.{List}
 use native.Mathlib.Omega.{arith}
@@ -22,14 +22,8 @@ clean c =
     let o = c .before .before .record-fault in
     done-none (o .result) _ (record-numbered _) (c .enum-told2 .given .1) (o .ensures)
 
-record-fault-requires : tie.Need-record-fault-requires
-record-fault-requires c κs = search needs
-
 enum-told : tie.Need-enum-told
 enum-told c = search needs
-
-refused-requires : tie.Need-refused-requires
-refused-requires c κs = search needs
 
 returns : tie.Need-returns
 unfolding putLength putOut
@@ -42,22 +36,10 @@ returns c =
     refused-writes (putRefusal (a .file .now) call) (putWrites (a .file .now) call) (a .out .now) _ _
     (refused-not (o .result) _ _ (c .before .enum-told .given .1) k) (ap outcomeAnswer (r .0) ∙ k) (r .1)
 
-enum-told-2 : tie.Need-enum-told-2
-enum-told-2 c = search needs
-
-slice-aggregate-write-cp : tie.Need-slice-aggregate-write-cp
-slice-aggregate-write-cp c = search needs
-
-write-cp-requires : tie.Need-write-cp-requires
-write-cp-requires c κs = search needs
-
 add-len : tie.Need-add-len
 add-len c =
     let a = c .before .before .before .before .before .before .before .before .before .args in
     omega (arith, count-is (a .r) _ refl (clean (c .before .before .before .before)) _ (c .before .before .write-cp .ensures .1) .1)
-
-slice-aggregate-put-cp : tie.Need-slice-aggregate-put-cp
-slice-aggregate-put-cp c = search needs
 
 put-cp-requires : tie.Need-put-cp-requires
 put-cp-requires c κs =
@@ -65,9 +47,6 @@ put-cp-requires c κs =
     let n = count-is (a .r) _ refl (clean (c .before .before .before .before .before .before)) _
     (c .before .before .before .before .write-cp .ensures .1) .1 in
     (omega arith, omega (arith, n), omega (arith, n))
-
-same-length : tie.Need-same-length
-same-length c = search needs
 
 returns-2 : tie.Need-returns-2
 unfolding putLength putOut
@@ -84,16 +63,5 @@ returns-2 c =
 pub put-spec : {M : Type 1} → statement M
 put-spec =
     tie.close
-    (tie.spec
-    record-fault-requires
-    enum-told
-    refused-requires
-    returns
-    enum-told-2
-    slice-aggregate-write-cp
-    write-cp-requires
-    add-len
-    slice-aggregate-put-cp
-    put-cp-requires
-    same-length
-    returns-2)
+    (tie.spec (λ c κs. search needs) enum-told (λ c κs. search needs) returns (λ c. search needs) (λ c. search needs)
+    (λ c κs. search needs) add-len (λ c. search needs) put-cp-requires (λ c. search needs) returns-2)

@@ -1,6 +1,6 @@
 -- Broken, too many, or written afresh. Assumes nothing.
 use mathlib.Core.Path.{_≡_, sym, ap, _∙_}
-use mathlib.Core.Bool.{true, false}
+use mathlib.Core.Bool.{true}
 use mathlib.Core.List.{List}
 use Prim.Native.Nat.{ℕ, _+_, _-_}
 use native.Mathlib.Omega.{arith}
@@ -33,12 +33,6 @@ many c cp =
     many-is (a .file .now) (a .j) (valid entry) (f .result) (f .ensures) cp _ _ (c .before .one-if .ensures .0)
     (c .junctions-in .ensures .0)
 
-is-file-requires : tie.Need-is-file-requires
-is-file-requires c κs = search needs
-
-refused-requires : tie.Need-refused-requires
-refused-requires c κs = search needs
-
 returns : tie.Need-returns
 returns c =
     let a = c .before .before .before .before .before .before .args in
@@ -51,18 +45,6 @@ returns c =
 
 found-in-requires : tie.Need-found-in-requires
 found-in-requires c κs = (valid c, c .before .before .before .before .before .pre .0)
-
-one-if-requires : tie.Need-one-if-requires
-one-if-requires c κs = search needs
-
-junctions-in-requires : tie.Need-junctions-in-requires
-junctions-in-requires c κs = search needs
-
-add-many : tie.Need-add-many
-add-many c = search needs
-
-refused-requires-2 : tie.Need-refused-requires-2
-refused-requires-2 c κs = search needs
 
 returns-2 : tie.Need-returns-2
 returns-2 c =
@@ -94,15 +76,6 @@ slice-aggregate-written c =
     sym (length-take-le _ _
     (c .before .before .before .before .before .before .before .before .before .before .before .before .before .pre .1))
 
-sub-written : tie.Need-sub-written
-sub-written c = search needs
-
-part-written-start : tie.Need-part-written-start
-part-written-start c = search needs
-
-part-written-end : tie.Need-part-written-end
-part-written-end c = search needs
-
 written-requires : tie.Need-written-requires
 written-requires c κs =
     let counted = c .before .before .before .before .before .before in
@@ -120,9 +93,6 @@ written-requires c κs =
         ),
       ),
     )
-
-same-length : tie.Need-same-length
-same-length c = search needs
 
 returns-3 : tie.Need-returns-3
 returns-3 c =
@@ -142,21 +112,6 @@ returns-3 c =
 pub put-cp-spec : {M : Type 1} → statement M
 put-cp-spec =
     tie.close
-    (tie.spec
-    is-file-requires
-    refused-requires
-    returns
-    found-in-requires
-    one-if-requires
-    junctions-in-requires
-    add-many
-    refused-requires-2
-    returns-2
-    cp-place-requires
-    slice-aggregate-written
-    sub-written
-    part-written-start
-    part-written-end
-    written-requires
-    same-length
-    returns-3)
+    (tie.spec (λ c κs. search needs) (λ c κs. search needs) returns found-in-requires (λ c κs. search needs) (λ c κs. search needs)
+    (λ c. search needs) (λ c κs. search needs) returns-2 cp-place-requires slice-aggregate-written (λ c. search needs) (λ c. search needs)
+    (λ c. search needs) written-requires (λ c. search needs) returns-3)

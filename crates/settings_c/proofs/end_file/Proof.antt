@@ -4,16 +4,10 @@ use Rattle.settings_c.proofs.Answers.{end-refused, end-done}
 use Rattle.settings_c.proofs.end_file.Statement.{statement}
 use Rattle.settings_c.proofs.end_file.Tie as tie
 
-code-of-requires : tie.Need-code-of-requires
-code-of-requires c κs = search needs
-
 returns : tie.Need-returns
 returns c =
     let done = c .before .before .args .done in
     end-refused (done .outcome) _ (c .before .code-of .ensures) (done .length) (c .if1 .taken)
-
-cast-result : tie.Need-cast-result
-cast-result c = search needs
 
 returns-2 : tie.Need-returns-2
 returns-2 c =
@@ -21,4 +15,4 @@ returns-2 c =
     end-done (done .outcome) _ (c .before .before .code-of .ensures) (done .length) (c .before .if1 .left)
 
 pub end-file-spec : {M : Type 1} → statement M
-end-file-spec = tie.close (tie.spec code-of-requires returns cast-result returns-2)
+end-file-spec = tie.close (tie.spec (λ c κs. search needs) returns (λ c. search needs) returns-2)

@@ -4,12 +4,6 @@ use Rattle.settings_c.proofs.Answers.{look-refused, look-short, look-do
 use Rattle.settings_c.proofs.look_up.Statement.{statement}
 use Rattle.settings_c.proofs.look_up.Tie as tie
 
-look-up-requires : tie.Need-look-up-requires
-look-up-requires c κs = search needs
-
-code-of-requires : tie.Need-code-of-requires
-code-of-requires c κs = search needs
-
 returns : tie.Need-returns
 returns c =
     let a = c .before .before .before .before .before .args in
@@ -25,12 +19,6 @@ returns-2 c =
     (c .before .before .code-of .ensures) (c .before .if1 .left)
     (c .if2 .taken)
 
-record-into-requires : tie.Need-record-into-requires
-record-into-requires c κs = search needs
-
-same-length : tie.Need-same-length
-same-length c = search needs
-
 returns-3 : tie.Need-returns-3
 returns-3 c =
     let long = c .before .before .before .before in
@@ -44,11 +32,4 @@ returns-3 c =
 pub look-up-spec : {M : Type 1} → statement M
 look-up-spec =
     tie.close
-    (tie.spec
-    look-up-requires
-    code-of-requires
-    returns
-    returns-2
-    record-into-requires
-    same-length
-    returns-3)
+    (tie.spec (λ c κs. search needs) (λ c κs. search needs) returns returns-2 (λ c κs. search needs) (λ c. search needs) returns-3)

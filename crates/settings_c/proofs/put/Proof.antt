@@ -9,21 +9,12 @@ returns c =
     let a = c .before .before .before .before .args in
     put-short (a .file .now) (a .junction) (a .rec .now) (a .out .now) (c .if1 .taken)
 
-record-from-requires : tie.Need-record-from-requires
-record-from-requires c κs = search needs
-
-put-requires : tie.Need-put-requires
-put-requires c κs = search needs
-
 end-file-requires : tie.Need-end-file-requires
 end-file-requires c κs =
     let entry = c .before .before in
     let from = entry .before .before in
     let a = from .before .before .before .before .before .args in
     put-fits (a .file .now) (a .junction) (a .rec .now) (a .out .now) _ (from .record-from .ensures) _ (entry .put .ensures .1)
-
-same-length : tie.Need-same-length
-same-length c = search needs
 
 returns-2 : tie.Need-returns-2
 returns-2 c =
@@ -35,6 +26,4 @@ returns-2 c =
     (entry .put .result .outcome) (e .0) _ (e .1) _ (e .2) _ (c .end-file .ensures)
 
 pub put-spec : {M : Type 1} → statement M
-put-spec =
-    tie.close
-    (tie.spec returns record-from-requires put-requires end-file-requires same-length returns-2)
+put-spec = tie.close (tie.spec returns (λ c κs. search needs) (λ c κs. search needs) end-file-requires (λ c. search needs) returns-2)
