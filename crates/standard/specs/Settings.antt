@@ -68,6 +68,7 @@ unfoldable pub littleAt : List ℕ → ℕ → ℕ → ℕ
 littleAt s at zero = 0
 littleAt s at (suc w) = getD s at 0 + 256 * littleAt s (suc at) w
 
+-- the entry from `at` on
 unfoldable pub entryAt : List ℕ → ℕ → Entry
 entryAt s at =
     record { junction = littleAt s at 2; kind = getD s (at + 2) 0; cp = take (getD s (at + 3) 0) (drop (at + 4) s) }
@@ -89,6 +90,7 @@ trailer v = v .count + v .start + 1
 abbrev pub countIn : Version → List ℕ → ℕ
 countIn v s = littleAt s (length s - trailer v) (v .count)
 
+-- as many as the trailer says, 'from place 0'
 unfoldable pub entriesIn : Version → List ℕ → List Entry
 entriesIn v s = entriesAt (v .start) s 0 (countIn v s)
 
@@ -147,6 +149,7 @@ above j (e ∷ es) = cond (ltb j (e .junction)) (e ∷ above j es) (above j es)
 unfoldable pub replace : ℕ → List Entry → List Entry → List Entry
 replace j own es = below j es ++ (own ++ above j es)
 
+-- the entries after a put of the CP cp for junction j, and after a going back
 unfoldable pub put : ℕ → List ℕ → List Entry → List Entry
 put j cp es = replace j (entriesFor j (afterPut cp (shown j es))) es
 
@@ -163,6 +166,7 @@ backFile s j = fileOf (versionIn s) (back j (settingsIn s))
 
 -- ---- the rules of a file
 
+-- two byte strings are equal, as a test
 unfoldable pub same : List ℕ → List ℕ → Bool
 same [] [] = true
 same [] (y ∷ ys) = false
@@ -179,6 +183,7 @@ follows d e =
     (eqb (e .kind) 0 && ltb (d .junction) (e .junction))
     || (eqb (e .kind) 1 && (eqb (d .kind) 0 && eqb (e .junction) (d .junction)))
 
+-- entries behind entry d, each of which may stand behind the one before it
 unfoldable pub inOrder : Entry → List Entry → Bool
 inOrder d [] = true
 inOrder d (e ∷ es) = follows d e && inOrder e es
@@ -207,6 +212,7 @@ readable cp =
     let n = bitCountOf (length cp) in
     eqb (length cp) (bytesFor n) && eqb (first (readTests cp n) .number) 0
 
+-- no CP is refused
 unfoldable pub allReadable : List Entry → Bool
 allReadable [] = true
 allReadable (e ∷ es) = readable (e .cp) && allReadable es
