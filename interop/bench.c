@@ -13,7 +13,7 @@
 #include <time.h>
 
 enum { PLAIN, PROVED, CODECS, WARM_UP = 3, ROUNDS = 41, CP_BYTES = 122, OCTETS = 6 * V91_FRAMES };
-enum { PLAN_K = 24, PLAN_SPACING = 600, SETTINGS = 2 * V91_JUNCTIONS };
+enum { PLAN_K = 24, PLAN_SPACING = 600, SETTINGS_A_ROUND = 4000 };
 
 static const struct codec {
     uint32_t (*send)(const uint8_t *, size_t, bool, size_t, bool, uint64_t, const uint8_t *, size_t,
@@ -39,7 +39,7 @@ static const struct codec {
 
 /* What the calls read, and what each codec writes. */
 static uint8_t record[V91_RECORD_BYTES], bits[OCTETS], line[OCTETS], cp[CP_BYTES], file[V91_FILE_BYTES];
-static size_t count, bits_len, cp_bits, file_len;
+static size_t count, bits_len, cp_bits, file_len, junctions;
 static bool control;
 static struct written {
     uint8_t octets[OCTETS], bits[OCTETS], marks[V91_FRAMES], heard[V91_HEARD_BYTES], state[V91_STATE_BYTES];
@@ -96,14 +96,14 @@ static uint32_t plan_call(const struct codec *codec, struct written *to)
 }
 
 /* A junction of the file, and the one in the middle of it. */
-static uint16_t junction(unsigned n)
+static uint16_t junction(size_t n)
 {
     return (uint16_t)(300 + 7 * n);
 }
 
 static uint16_t middle(void)
 {
-    return junction(V91_JUNCTIONS / 2);
+    return junction(junctions / 2);
 }
 
 static uint32_t put_call(const struct codec *codec, struct written *to)
@@ -193,15 +193,16 @@ static void make_masks(unsigned g)
     cp_bits = plain_write_cp(record, sizeof record, cp, sizeof cp);
 }
 
-/* A full settings file: the record, with either acknowledge bit, as both settings of each junction. */
-static void make_file(void)
+/* A settings file of so many junctions: the record, with either acknowledge bit, as both settings of each. */
+static void make_file(size_t wanted)
 {
     static const uint8_t empty[] = V91_EMPTY_FILE;
     static uint8_t made[V91_FILE_BYTES];
 
     memcpy(file, empty, sizeof empty);
     file_len = sizeof empty;
-    for (unsigned n = 0; n < SETTINGS; n++) {
+    junctions = wanted;
+    for (size_t n = 0; n < 2 * junctions; n++) {
         record[V91_RECORD_ACKNOWLEDGE] = (uint8_t)(n % 2);
         file_len = plain_put(file, file_len, junction(n / 2), record, sizeof record, made, sizeof made);
         memcpy(file, made, file_len);
@@ -246,6 +247,22 @@ static void frames_on(const char *entry, uint32_t (*call)(const struct codec *, 
     control = false;
 }
 
+/* A full settings file, of version 1 with 40 junctions and of version 2 with 400, of one mask and of six. */
+static void settings(void)
+{
+    static const size_t most[] = { V91_JUNCTIONS_1, V91_JUNCTIONS };
+
+    for (int v = 0; v < 2; v++)
+        for (unsigned g = 0; g < 6; g += 5) {
+            size_t each = 2 * most[v], calls = SETTINGS_A_ROUND / each;
+            make_masks(g);
+            make_file(most[v]);
+            measure("put", g, each, put_call, calls);
+            measure("go_back", g, each, go_back_call, calls);
+            measure("look_up", g, each, look_up_call, calls);
+        }
+}
+
 int main(void)
 {
     static const size_t counts[] = { 6, 192, 6144 };
@@ -271,12 +288,6 @@ int main(void)
     measure("find", 0, 1, find_state_call, 1000);
     measure("send_dil", 0, V91_DIL_OCTETS, dil_call, 1000);
     measure("plan", PLAN_K, 1, plan_call, 1000);
-    for (unsigned g = 0; g < 6; g += 5) {
-        make_masks(g);
-        make_file();
-        measure("put", g, SETTINGS, put_call, 100);
-        measure("go_back", g, SETTINGS, go_back_call, 100);
-        measure("look_up", g, SETTINGS, look_up_call, 100);
-    }
+    settings();
     return 0;
 }

@@ -7,11 +7,12 @@ the answer and every byte of every buffer afterwards, with canary bytes before a
 runs of calls the codec's own bytes are held against what the count of doubtful bits promises, in others
 a sequence of the control channel goes through calls of any lengths, in others CP and E_s go before the
 data and the receiver begins in the line state found from them, in others one line is received twice, the
-second time with one sign flipped, in others each call has the settings file that the call before it left, and
-look-ups are held against what was put and gone back to. The test stops at the first difference
+second time with one sign flipped, in others each call has the settings file that the call before it left, of
+either version, and look-ups are held against what was put and gone back to. The test stops at the first difference
 with a line that shows the call; --show prints every call before it is made. The exit status is 0 if all
 was the same and every refusal, interval, mark, count and place that a state can hand in, all that can be
-heard, and each K and interval with a flipped sign came up, else 1.
+heard, each K and interval with a flipped sign, and files of each version, a few junctions and the most, came
+up, else 1.
 """
 
 import argparse
@@ -50,10 +51,13 @@ DOUBTFUL, FRAME_PLACE, SEQUENCE_PLACE = 5, 6, 7  # bytes of a state; history and
 IN_STATE = {"counts of doubtful bits": DOUBTFUL, "frame places": FRAME_PLACE, "sequence places": SEQUENCE_PLACE}
 TOLD = ("nothing", "a sequence", "a frame lost", "the pattern wrong", "the CRC wrong")
 DIL_OCTETS = dil.length(dil.TABLE_5)
-MOST_ROOM = 20_000  # the most bytes lent for a settings file, which has 10,244 at most
+MOST_ROOM = 120_000  # the most bytes lent for a settings file, which has 104,007 at most
 LEAST_COUNT = 47  # the least answer that is a count: the length of a file with one setting
 
-settings.cp_reading = lru_cache(maxsize=1 << 12)(settings.cp_reading)  # a file has up to 80 CPs, read in each call
+# A file has up to 800 CPs, and is taken apart more than once in each call.
+settings.cp_reading = lru_cache(maxsize=1 << 12)(settings.cp_reading)
+settings.parts_of = lru_cache(maxsize=8)(settings.parts_of)
+settings.read = lru_cache(maxsize=8)(settings.read)
 
 # The parameters of each entry; all but a_law and the numbers are buffers: a pointer and a length.
 ENTRIES = {
@@ -130,7 +134,11 @@ SETTINGS_GROUPS = (
     cases_settings.random_files, cases_settings.flips, cases_settings.without_entries, cases_settings.each_length,
     cases_settings.several_rates, cases_settings.junction_numbers, cases_settings.places_of_puts,
     cases_settings.alike_settings, cases_settings.buffers, cases_settings.near_the_most,
-    cases_settings.many_entries)
+    cases_settings.many_entries, cases_settings.without_entries_2, cases_settings.few_in_version_2,
+    cases_settings.rules_broken_2, cases_settings.flips_2, cases_settings.turned_by_puts,
+    cases_settings.forty_in_version_2, cases_settings.across_the_turn, cases_settings.lists_in_version_2,
+    cases_settings.refused_at_the_most)
+OF_FILE = ("put", "go_back", "look_up")
 EACH_HIT = [(k, interval) for k in range(15, 43) for interval in range(6)]
 ENOUGH = 50_000  # from so many calls on, all of these have to come up
 
@@ -288,7 +296,7 @@ class Memory:
     EDGE = len(CANARY)
 
     def __init__(self):
-        self.array = ctypes.create_string_buffer(1 << 16)
+        self.array = ctypes.create_string_buffer(1 << 17)
         self.view = memoryview(self.array).cast("B")
         self.base = ctypes.addressof(self.array) + self.EDGE
 
@@ -373,6 +381,7 @@ class Test:
         self.promised, self.sequences, self.openings = Counter(), Counter(), Counter()
         self.hits, self.next_hit = Counter(), 0
         self.settled, self.drawn, self.long_drawn = Counter(), [], []
+        self.by_version, self.full_file, self.next_rare = Counter(), None, 0
         self.next_count = self.next_start_count = 0
         self.held = {entry: set() for entry in ENTRIES}
         self.sets = [(entry, {number}) for entry in FAULTY for number in FAULTY[entry][1]]
@@ -407,6 +416,8 @@ class Test:
             self.told[after["heard"][0]] += 1
         if entry == "receive" and answer == 17 and len(values[7]) < HEARD_BYTES:
             self.short_heard += 1
+        if entry in OF_FILE and is_done(answer):
+            self.by_version[entry, values[0][-1]] += 1
         for what, at in IN_STATE.items() if entry in self.handed_in else ():
             self.handed_in[entry][what].update(values[-1][at:at + 1])
         return found, {name: now[Memory.EDGE:-Memory.EDGE] for name, now in there.items()}
@@ -863,7 +874,8 @@ class Test:
         for _ in range(8):
             entry, numbers = self.sets[self.next_set]
             self.next_set = (self.next_set + 1) % len(self.sets)
-            self.fault(FAULTY[entry][0](self.draw, numbers))
+            faulty = self.faulty_at_the_most if 24 in numbers else FAULTY[entry][0]
+            self.fault(faulty(self.draw, numbers))
         numbers = {number for number in cases_frames.NUMBERS if self.draw.below(3) == 0}
         if cases_frames.possible(numbers) and numbers - {15, 17}:
             self.fault(cases_frames.faulty_send(self.draw, numbers))
@@ -1007,7 +1019,11 @@ class Test:
             self.drawn = [*self.drawn[-39:], (rec, cases_cp.noisy(self.draw, rec))]
         return self.draw.pick(self.drawn)
 
-    def a_file(self, count, settings_each=(1, 2), a_setting=None):
+    def a_version(self, count):
+        """A version that has room for so many junctions."""
+        return self.draw.pick([version for version in settings.VERSIONS if count <= version.most_junctions])
+
+    def a_file(self, count, settings_each=(1, 2), a_setting=None, version=None):
         """(A file of so many junctions, {junction: [records of its settings, the current one first]})."""
         draw, kept, found = self.draw, {}, []
         while len(kept) < count:
@@ -1016,14 +1032,20 @@ class Test:
             some = [(a_setting or self.a_setting)() for _ in range(draw.pick(settings_each))]
             kept[junction] = [record.pack(rec) for rec, _ in some]
             found.append(settings.Junction(junction, some[0][1], some[1][1] if len(some) > 1 else None))
-        return settings.write(found), kept
+        return settings.write(found, version or self.a_version(count)), kept
 
-    def a_full_file(self):
-        """The same of 40 junctions with two settings of six masks each: the longest file."""
+    def a_longest_file(self, version):
+        """The same of the most junctions with two settings of six masks each: the longest file of a version."""
         while len(self.long_drawn) < 6:
             rec = a_record(self.draw, self.draw.between(0, 28), 5)
             self.long_drawn.append((rec, cases_cp.noisy(self.draw, rec)))
-        return self.a_file(40, (2,), lambda: self.draw.pick(self.long_drawn))
+        return self.a_file(version.most_junctions, (2,), lambda: self.draw.pick(self.long_drawn), version)
+
+    def some_file(self, *counts):
+        """The same of one of these numbers of junctions; rarely of 38 to 41 or about 400."""
+        draw, how = self.draw, self.draw.below(60)
+        many = draw.pick((38, 39, 40, 41)) if how else draw.pick((397, 398, 399, 400))
+        return self.a_file(many if how < 3 else draw.pick(counts))
 
     def a_junction(self, kept):
         """A junction number: mostly one that is kept, at times one next to it or any."""
@@ -1042,7 +1064,7 @@ class Test:
 
     def settle(self, file, junction, kept):
         """A put, a going back or a look-up; the file that it leaves. What it does is noted in `kept`."""
-        how, here = self.draw.below(9), kept.get(junction, [])
+        how, here, before = self.draw.below(9), kept.get(junction, []), file[-1]
         if how < 4:
             rec = self.a_setting()[0]
             done, file = self.put(file, junction, rec)
@@ -1056,6 +1078,7 @@ class Test:
                 self.settled["goings back"] += 1
         else:
             self.shows(file, junction, kept)
+        self.expect(file[-1] == (before if len(kept) <= 40 else 2), "a file of another version is left")
         return file
 
     def settling(self):
@@ -1064,7 +1087,7 @@ class Test:
         A call that is refused for a short buffer leaves the file as it was.
         """
         draw = self.draw
-        file, kept = self.a_file(draw.pick((0, 0, 1, 2, 3, 6)))
+        file, kept = self.some_file(0, 0, 1, 2, 3, 6)
         numbers = [self.a_junction(kept) for _ in range(draw.between(1, 3))]
         for _ in range(draw.between(4, 16)):
             file = self.settle(file, draw.pick(numbers), kept)
@@ -1072,37 +1095,95 @@ class Test:
             self.shows(file, junction, kept)
         self.settled["runs"] += 1
 
-    def growing(self):
-        """Puts of one junction after another, from none or from many on, to beyond 40: the 41st is refused."""
-        draw = self.draw
-        file, kept = self.a_file(draw.pick((0, 36, 38, 39, 40)))
-        while len(kept) < 40:
+    def up_to_the_most(self, counts, version):
+        """A file as full as its version allows, by puts of one junction after another, and what it keeps."""
+        file, kept = self.a_file(self.draw.pick(counts), version=version)
+        while len(kept) < version.most_junctions:
             file = self.settle(file, self.draw.bits(16), kept)
-        for junction in [draw.bits(16) for _ in range(3)] + [draw.pick(list(kept)) for _ in range(4)]:
+        self.expect(file[-1] == version.byte, "a file turns before it has to")
+        return file, kept
+
+    def one_more(self, kept):
+        """A junction that is not kept."""
+        return next(junction for junction in iter(lambda: self.draw.bits(16), None) if junction not in kept)
+
+    def crowded(self, version):
+        """A file of one junction more than its version allows: each entry refuses it."""
+        file, kept = self.a_file(version.most_junctions + 1, version=version)
+        junction, rec = self.draw.pick(list(kept)), self.a_setting()[0]
+        self.expect(self.look_up(file, junction)[0] == 22, "a file of too many junctions is taken")
+        self.put(file, junction, rec)
+        self.go_back(file, junction)
+
+    def turning(self):
+        """A put of a 41st junction turns version 1 into version 2: all junctions are shown as they were.
+
+        Then puts and goings back leave version 2.
+        """
+        draw, (file, kept) = self.draw, self.up_to_the_most((0, 36, 38, 39, 40), settings.VERSION_1)
+        junction, rec = self.one_more(kept), self.a_setting()[0]
+        room = cases_settings.room_for(file, junction, rec)
+        for lent in (room - 1, room + draw.below(3)):
+            answer, after = self.call("put", file, junction, record.pack(rec), self.some(lent))
+            self.expect(answer == (17 if lent < room else room), "a 41st junction is not put")
+        file, kept[junction] = after["out"][:room], [record.pack(rec)]
+        self.expect(file[-1] == 2, "a 41st junction, and still version 1")
+        self.settled["turned by a 41st junction"] += 1
+        for junction in kept:
+            self.shows(file, junction, kept)
+        for junction in [draw.bits(16) for _ in range(3)] + [draw.pick(list(kept)) for _ in range(6)]:
+            file = self.settle(file, junction, kept)
+        self.crowded(settings.VERSION_1)
+
+    def filling(self):
+        """Puts of one junction after another, from many on, to beyond 400: the 401st is refused."""
+        draw, (file, kept) = self.draw, self.up_to_the_most((398, 399, 400), settings.VERSION_2)
+        for junction in [self.one_more(kept) for _ in range(2)] + [draw.pick(list(kept)) for _ in range(3)]:
             rec = self.a_setting()[0]
             room = cases_settings.room_for(file, junction, rec) + draw.below(3)
-            answer, after = self.call("put", file, junction, self.record(rec), self.some(room))
-            self.expect(is_done(answer) == (junction in kept) or answer == 16, "a 41st junction, or none of the 40")
+            answer, after = self.call("put", file, junction, record.pack(rec), self.some(room))
+            self.expect(is_done(answer) == (junction in kept), "a 401st junction, or none of the 400")
             if is_done(answer):
                 file, kept[junction] = after["out"][:answer], [record.pack(rec), *kept[junction][:1]]
-            self.settled["a 41st junction"] += answer == 24
+            self.settled["a 401st junction"] += answer == 24
             self.shows(file, junction, kept)
-        crowded, kept = self.a_file(41)
-        junction = draw.pick(list(kept))
-        self.expect(self.look_up(crowded, junction)[0] == 22, "a file of 41 junctions is taken")
-        self.put(crowded, junction, rec)
-        self.go_back(crowded, junction)
+        self.crowded(settings.VERSION_2)
 
-    def fullest(self):
-        """Calls with the longest file: a put over a setting keeps its length where the CP is as long."""
-        draw, (file, kept) = self.draw, self.a_full_file()
+    def longest_files(self, version):
+        """Calls with the longest file: a put over a setting keeps its length where the CP is as long.
+
+        At last one junction more is put.
+        """
+        draw, (file, kept) = self.draw, self.a_longest_file(version)
         junction = draw.pick((min(kept), max(kept), draw.pick(list(kept))))
         for _ in range(2):
             file = self.settle(file, junction, kept)
         done, file = self.put(file, junction, draw.pick(self.long_drawn)[0])
         self.shows(file, draw.pick([other for other in kept if other != junction]), kept)
         self.call("look_up", self.broken(file), junction, self.some(RECORD_BYTES))
-        self.settled["longest files"] += done
+        self.put(file, self.one_more(kept), draw.pick(self.long_drawn)[0])
+        self.settled[f"longest files of version {version.byte}"] += done
+
+    def many(self):
+        """The next of the scenes with many junctions."""
+        scenes = (self.turning, lambda: self.longest_files(settings.VERSION_1), self.filling,
+                  self.turning, lambda: self.longest_files(settings.VERSION_2))
+        self.next_rare += 1
+        scenes[self.next_rare % len(scenes)]()
+
+    def faulty_at_the_most(self, draw, numbers):
+        """A put of a 401st junction, in which the other refusals of `numbers` hold too; most files are one."""
+        if self.full_file is None or draw.below(16) == 0:
+            self.full_file = self.a_file(400, (1,))
+        file, kept = self.full_file
+        junction, trailer = self.one_more(kept), settings.trailer_size(settings.VERSION_2)
+        if 22 in numbers:
+            place = draw.pick((4, 5, len(file) - draw.between(2, trailer)))  # of a CP's first bits, or of the trailer
+            file = file[:place] + bytes([file[place] ^ 1 << draw.below(8)]) + file[place + 1:]
+        rec = faulty_record(draw, numbers, most_index=255 if 17 in numbers else 6)
+        needed = cases_settings.room_for(file, junction, rec)
+        room = draw.pick((0, needed - 1)) if 17 in numbers else needed + draw.below(2)
+        return forms.put_case(file, junction, rec, room)
 
     def a_place(self, file):
         """A place in a file: any, or in the head or the start of an entry, or in the trailer."""
@@ -1115,34 +1196,38 @@ class Test:
         """The file with some bits or bytes changed, cut out or put in; it may still be valid."""
         draw, form = self.draw, bytearray(file)
         for _ in range(draw.pick((1, 1, 1, 2, 3))):
-            place, some = self.a_place(bytes(form)), draw.pick((1, 1, 2, 4, 17, 43))
+            place, some = self.a_place(bytes(form)), draw.pick((1, 1, 2, 4, 17, 43, 45))
             how = draw.below(8)
             if how < 3 and place < len(form):
                 form[place] ^= 1 << draw.below(8)
             elif how < 5 and place < len(form):
-                form[place] = draw.pick((0, 1, form[place] + 1 & 255, draw.bits(8)))
+                form[place] = draw.pick((0, 1, 2, form[place] + 1 & 255, draw.bits(8)))
             elif how == 5:
                 del form[place:place + some]
             elif how == 6:
                 form[place:place] = draw.pick((draw.octets(some), form[:some]))
             else:
-                form = form[:draw.pick((0, 1, 3, 4, len(form) - 4, place))] if draw.below(2) else form + form[-some:]
+                length = draw.pick((0, 1, 3, 4, 6, 7, len(form) - 4, len(form) - 7, place))
+                form = form[:max(length, 0)] if draw.below(2) else form + form[-some:]
         return bytes(form)
 
     def rebuilt(self, file):
-        """A file of the same entries, one of them left out, moved, doubled or changed; all else is right."""
-        draw, pieces = self.draw, [cases_settings.Piece(entry.junction, entry.kind, entry.octets)
-                                   for entry in settings.parts_of(file).entries]
-        if not pieces:
-            return file
+        """A file of the same entries, one of them left out, moved, doubled or changed; all else is right.
+
+        At times none is, and the widths are those of the other version or of none.
+        """
+        draw, parts = self.draw, settings.parts_of(file)
+        pieces = [cases_settings.Piece(entry.junction, entry.kind, entry.octets) for entry in parts.entries]
+        if not pieces or draw.below(4) == 0:
+            return cases_settings.built(pieces, draw.pick((*settings.VERSIONS, *cases_settings.OTHER_WIDTHS)))
         one, two = draw.pick(pieces), draw.pick(pieces)
         n, m = draw.below(len(pieces)), draw.below(len(pieces))
         other = one._replace(**draw.pick(({"kind": 1 - one.kind}, {"kind": 2}, {"junction": two.junction},
                                           {"junction": one.junction + 1 & 0xFFFF}, {"octets": one.octets[:-1]},
                                           {"octets": self.a_setting()[1]}, {"octets": two.octets})))
-        return cases_settings.built(draw.pick((pieces[:n] + pieces[n + 1:], pieces[n:] + pieces[:n],
-                                               pieces[:m] + [one] + pieces[m:], pieces[:n] + [other] + pieces[n + 1:],
-                                               pieces[:n] + [other] + pieces[n:])))
+        pieces = draw.pick((pieces[:n] + pieces[n + 1:], pieces[n:] + pieces[:n], pieces[:m] + [one] + pieces[m:],
+                            pieces[:n] + [other] + pieces[n + 1:], pieces[:n] + [other] + pieces[n:]))
+        return cases_settings.built(pieces, parts.version)
 
     def breaking(self):
         """Files changed in some places, handed to each entry, and on to the next call where that is done.
@@ -1151,7 +1236,7 @@ class Test:
         """
         draw = self.draw
         for _ in range(3):
-            file, kept = self.a_file(draw.pick((0, 1, 1, 2, 3)))
+            file, kept = self.some_file(0, 1, 1, 2, 3)
             file, junction = draw.pick((self.broken, self.broken, self.rebuilt))(file), self.a_junction(kept)
             self.call("look_up", file, junction, self.cut(self.some(RECORD_BYTES)))
             _, file = self.put(file, junction, self.a_setting()[0])
@@ -1190,7 +1275,7 @@ class Test:
                 if self.draw.below(1000) == 0:
                     self.longest()
                 if self.draw.below(200) == 0:
-                    self.draw.pick((self.growing, self.fullest))()
+                    self.many()
         except Enough:
             pass
 
@@ -1228,9 +1313,14 @@ class Test:
         runs = sum(self.hits.values())
         print(f"one flipped sign: runs: {runs}, K and interval: {len(self.hits)} of {len(EACH_HIT)}")
         lacking += [f"a flipped sign, K and interval {hit}" for hit in EACH_HIT if not self.hits[hit]]
-        met = ("runs", "puts", "goings back", "look-ups as kept", "a 41st junction", "longest files")
+        met = ("runs", "puts", "goings back", "look-ups as kept", "turned by a 41st junction", "a 401st junction",
+               "longest files of version 1", "longest files of version 2")
         print("settings files:", ", ".join(f"{what}: {self.settled[what]}" for what in met))
         lacking += [f"settings files, {what}" for what in met if not self.settled[what]]
+        for byte in (1, 2):
+            words = [f"{entry}: {self.by_version[entry, byte]}" for entry in OF_FILE]
+            print(f"done with files of version {byte}:", ", ".join(words))
+            lacking += [f"{entry} with version {byte}" for entry in OF_FILE if not self.by_version[entry, byte]]
         if lacking and self.made >= ENOUGH:
             print("never came up:", ", ".join(lacking))
             return False

@@ -1,6 +1,6 @@
 /* Reads a CP, sends 63 one bits in three frames, receives them, and prints what came of it; another receiver begins cold.
    Then a request to retrain goes through the control channel, a circuit begins with its CP and E_s, and two settings of
-   a junction go into a settings file. Exits with 1 if anything is not as expected. */
+   a junction go into a settings file, and 40 more junctions. Exits with 1 if anything is not as expected. */
 #include "v91.h"
 
 #include <stdio.h>
@@ -81,7 +81,8 @@ static void start_from_cp(const uint8_t *record)
     expect(v91_find_state(line, V91_FIND_OCTETS - 1, receiver, sizeof receiver) == V91_INPUT_TOO_SHORT, "23 octets are taken");
 }
 
-/* Two settings of a junction, put one after the other into an empty file; then back to the first of them. */
+/* Two settings of a junction, put one after the other into an empty file; then back to the first of them. The last of 40
+   junctions more turns the file into version 2. */
 static void settings_file(const uint8_t *record)
 {
     static const uint8_t empty[] = V91_EMPTY_FILE;
@@ -103,6 +104,17 @@ static void settings_file(const uint8_t *record)
     expect(memcmp(current, record, sizeof current) == 0, "another setting than the one gone back to");
     printf("file   %u bytes", length);
     print_hex(", trailer", one + length - V91_TRAILER_BYTES, V91_TRAILER_BYTES);
+    for (unsigned n = 1; n <= V91_JUNCTIONS_1; n++) {
+        expect(one[length - 1] == 1, "version 1 is left before a 41st junction");
+        length = v91_put(one, length, (uint16_t)(JUNCTION + n), other, sizeof other, two, sizeof two);
+        expect(!V91_REFUSED(length), "another junction is refused");
+        memcpy(one, two, length);
+    }
+    expect(length == 42 * V91_ENTRY_BYTES_2(CP_BITS) + V91_TRAILER_BYTES_2, "another length than that of 42 settings");
+    expect(v91_look_up(one, length, JUNCTION, current, sizeof current) == 0, "the junction is gone from version 2");
+    expect(memcmp(current, record, sizeof current) == 0, "another setting in version 2");
+    printf("file   %u bytes", length);
+    print_hex(", trailer", one + length - V91_TRAILER_BYTES_2, V91_TRAILER_BYTES_2);
     one[length - 1] = 0;
     expect(v91_look_up(one, length, JUNCTION, current, sizeof current) == V91_FILE_BROKEN, "another version is taken");
 }

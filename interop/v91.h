@@ -28,17 +28,20 @@
  * history and the last sign that it leaves follow from the last 24 octets alone, whatever the state before them, so that
  * v91_find_state gives the far end the state in which v91_receive begins: every bit is then as sent, from the first.
  *
- * Settings file: for each of at most 40 junctions the CP that is its current setting, and the previous one where
- * there is one. An entry is the junction number in 2 bytes, one byte for current (0) or previous (1), one byte of CP
- * length in bytes, the CP's bytes, and in 2 bytes the start of the entry before it, the first pointing to itself.
- * Entries lie end to end from place 0, by rising junction number, for each one current and then at most one previous.
- * The trailer follows: one byte counting the entries, the start of the last entry in 2 bytes, 0 where there is none,
- * and last a version byte, 1. Numbers are low byte first. A file without entries is V91_EMPTY_FILE. v91_put makes a
- * record's CP the current setting, the current one before it the previous one, and drops the older one; v91_go_back
- * exchanges the two; the CP bytes of every other setting stay as they are. Both read the whole of `file`, check each
- * CP in it, and write the file afresh into `out`, which is another buffer. A refused call changes nothing, so that the
- * caller keeps the file that it has until the answer is a length. v91_look_up shows the setting last put or gone back
- * to.
+ * Settings file: for each junction the CP that is its current setting, and the previous one where there is one. An
+ * entry is the junction number in 2 bytes, one byte for current (0) or previous (1), one byte of CP length in bytes,
+ * the CP's bytes, and the start of the entry before it, the first pointing to itself. Entries lie end to end from place
+ * 0, by rising junction number, for each one current and then at most one previous. The trailer follows: the count of
+ * the entries, the start of the last entry, 0 where there is none, and last a version byte, 1 or 2. In version 1 a
+ * start has 2 bytes and the count 1, and there are at most 40 junctions; in version 2 a start has 4 bytes and the count
+ * 2, and there are at most 400. Numbers are low byte first. A file without entries is V91_EMPTY_FILE, of version 1, or
+ * V91_EMPTY_FILE_2. v91_put makes a record's CP the current setting, the current one before it the previous one, and
+ * drops the older one; v91_go_back exchanges the two; the CP bytes of every other setting stay as they are. Both keep
+ * the version, save that a put of a 41st junction turns version 1 into version 2, which shows every setting as version
+ * 1 did and has 2 bytes more for each entry and 3 more of trailer; nothing turns version 2 into version 1. Both read
+ * the whole of `file`, check each CP in it, and write the file afresh into `out`, which is another buffer. A refused
+ * call changes nothing, so that the caller keeps the file that it has until the answer is a length. v91_look_up shows
+ * the setting last put or gone back to.
  *
  * A flag counts as 1 where its byte is not 0, and is written as 0 or 1.
  *
@@ -56,9 +59,9 @@
  * bytes at the call, as the convention says. SSE registers are used (xmm0 to xmm15), so an interrupt that
  * calls a function has to save them; so is the red zone, 128 bytes below the stack pointer. Measured by
  * interop/footprint in calls of 1,024 frames with six full masks, and with a full settings file, the red zone
- * included: 39,479 bytes of code and 1,336 of constants; of stack 952 bytes (v91_write_cp), 928 (v91_read_cp),
+ * included: 39,931 bytes of code and 1,368 of constants; of stack 952 bytes (v91_write_cp), 928 (v91_read_cp),
  * 2,752 (v91_send), 2,704 (v91_receive), 8 (v91_linear), 144 (v91_send_dil), 920 (v91_send_cp), 8
- * (v91_find_state), 56 (v91_plan), 1,600 (v91_put), 1,152 (v91_go_back) and 1,312 (v91_look_up).
+ * (v91_find_state), 56 (v91_plan), 1,632 (v91_put), 1,200 (v91_go_back) and 1,344 (v91_look_up).
  */
 #ifndef V91_H
 #define V91_H
@@ -72,7 +75,7 @@ extern "C" {
 #endif
 
 /* Raised where a function is added, or a function, a layout or an answer changes. */
-#define V91_VERSION 7
+#define V91_VERSION 8
 
 /* ---- refusals */
 
@@ -98,7 +101,7 @@ enum v91_refusal {
     V91_INPUT_TOO_SHORT = 16,        /* a buffer to be read is shorter than needed */
     V91_FILE_BROKEN = 22,            /* the settings file breaks its rules, or a CP in it is refused */
     V91_SETTING_MISSING = 23,        /* the junction, or going back its previous setting, is not in the file */
-    V91_TOO_MANY_JUNCTIONS = 24,     /* the put would make a 41st junction */
+    V91_TOO_MANY_JUNCTIONS = 24,     /* the put would make a 401st junction */
     V91_RATE_OR_SPACING_OUTSIDE = 26,/* K is outside 15 to 42, or the spacing outside 1 to 65,535 */
     V91_NO_MASK = 27,                /* no mask of M points keeps the spacing */
     V91_SUM_EXCEEDS_CEILING = 28,    /* the least sum of squares exceeds the ceiling */
@@ -107,7 +110,7 @@ enum v91_refusal {
 
 /* Whether an answer is a refusal: it is 1 to 19, 22 to 24, 26 to 28, or 25 + (interval << 24). Else it is 0 or a count,
    which is 47 or more: the bit count of v91_write_cp, 294 to 972, the octet count of v91_send_cp, 306 to 984, the 1,500
-   octets of v91_send_dil, or a file's length in bytes, of v91_put 47 to 10,244 and of v91_go_back 90 to 10,244. */
+   octets of v91_send_dil, or a file's length in bytes, of v91_put 47 to 104,007 and of v91_go_back 90 to 104,007. */
 #define V91_REFUSED(answer) ((answer) != 0 && ((answer) < 47 || (answer) >= 1u << 24))
 
 /* Of an answer that is a refusal: its number; and with V91_INTERVAL_EMPTY the lowest such interval, 0 to 5. */
@@ -184,8 +187,15 @@ enum v91_heard {
 #define V91_EMPTY_FILE { 0, 0, 0, 1 }                        /* the bytes of a file without entries, for an array */
 #define V91_ENTRY_BYTES(bit_count) (((size_t)(bit_count) + 7) / 8 + 6) /* of an entry with a CP of so many bits */
 #define V91_TRAILER_BYTES 4
-#define V91_JUNCTIONS 40                                     /* the most junctions of a file */
-#define V91_FILE_BYTES 10244                                 /* the longest file: `out` is never too short then */
+#define V91_JUNCTIONS_1 40                                   /* the most junctions of a file of version 1, */
+#define V91_FILE_BYTES_1 10244                               /* and the longest one */
+
+/* The same in version 2, whose longest file is the longest of all: `out` is never too short then. */
+#define V91_EMPTY_FILE_2 { 0, 0, 0, 0, 0, 0, 2 }
+#define V91_ENTRY_BYTES_2(bit_count) (((size_t)(bit_count) + 7) / 8 + 8)
+#define V91_TRAILER_BYTES_2 7
+#define V91_JUNCTIONS 400
+#define V91_FILE_BYTES 104007
 
 /* ---- functions */
 
@@ -243,13 +253,14 @@ uint32_t v91_find_state(const uint8_t *octets, size_t octets_len, uint8_t *state
 uint32_t v91_plan(uint32_t k, bool a_law, uint32_t spacing, uint64_t ceiling, uint8_t *plan, size_t plan_len);
 
 /* Puts the record's CP into the settings file as the junction's current setting; the current one before it becomes the
-   previous one, and the older one is dropped. Writes the file into `out`. Answers its length in bytes, which is 47 to
-   10,244, or a refusal: 16 for a short record, 4, 9, 10, 25, 11, 12, 22, 24, 17; a record with drn 0 is put. */
+   previous one, and the older one is dropped. Writes the file into `out`, of the same version, or of version 2 where
+   this is the 41st junction of version 1. Answers its length in bytes, which is 47 to 104,007, or a refusal: 16 for a
+   short record, 4, 9, 10, 25, 11, 12, 22, 24, 17; a record with drn 0 is put. */
 uint32_t v91_put(const uint8_t *file, size_t file_len, uint16_t junction, const uint8_t *record, size_t record_len,
                  uint8_t *out, size_t out_len);
 
-/* Exchanges the junction's current and previous settings. Writes the file into `out`. Answers its length in bytes,
-   which is that of `file` and 90 to 10,244, or a refusal: 22, 23, 17. */
+/* Exchanges the junction's current and previous settings. Writes the file into `out`, of the same version. Answers its
+   length in bytes, which is that of `file` and 90 to 104,007, or a refusal: 22, 23, 17. */
 uint32_t v91_go_back(const uint8_t *file, size_t file_len, uint16_t junction, uint8_t *out, size_t out_len);
 
 /* Reads the junction's current setting into the record. Answers 0 or a refusal: 22, 23, and 17 last. */

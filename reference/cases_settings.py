@@ -8,7 +8,8 @@ from cases_cp import (ALL_FULL, body, byte_count, faulty_sequence, in_bytes, noi
 from forms import back_case, look_up_case, number, outcome, put_case
 from record import EMPTY, EXAMPLE
 from samples import Draw, a_record, faulty_record, with_index
-from settings import CURRENT, EMPTY_FILE, PREVIOUS, after_put, cp_size, found_in, size_of
+from settings import (CURRENT, EMPTY_FILE, PREVIOUS, VERSION_1, VERSION_2, after_put, cp_size,
+                      entry_size, found_in, grown, size_of, trailer_size)
 
 # In the order in which they are looked at.
 PUT_NUMBERS = (4, 9, 10, 25, 11, 12, 22, 24, 17)
@@ -43,22 +44,23 @@ def low_first(value, width):
     return (value % 256**width).to_bytes(width, "little")
 
 
-def built(pieces, count=None, last=None, version=1, between=b""):
-    """A file of entries as they are given; what is None is as it has to be."""
+def built(pieces, version=VERSION_1, count=None, last=None, byte=None, between=b""):
+    """A file of entries as they are given, in the widths of a version; what is None is right."""
     made, before = b"", 0
     for piece in pieces:
         place = len(made)
         size = len(piece.octets) if piece.size is None else piece.size
         made += low_first(piece.junction, 2) + bytes([piece.kind, size]) + piece.octets
-        made += low_first(before if piece.before is None else piece.before, 2)
+        made += low_first(before if piece.before is None else piece.before, version.start_width)
         before = place
-    made += between + low_first(len(pieces) if count is None else count, 1)
-    return made + low_first(before if last is None else last, 2) + bytes([version])
+    made += between + low_first(len(pieces) if count is None else count, version.count_width)
+    made += low_first(before if last is None else last, version.start_width)
+    return made + bytes([version.byte if byte is None else byte])
 
 
-def a_file(draw, shape, g=0):
+def a_file(draw, shape, g=0, version=VERSION_1):
     """A file of junctions given as (number, one or two settings)."""
-    return built(pieces_of(draw, shape, g))
+    return built(pieces_of(draw, shape, g), version)
 
 
 def numbered(draw, count, settings=1):
@@ -74,11 +76,11 @@ def changed(pieces, n, **fields):
     return [*pieces[:n], pieces[n]._replace(**fields), *pieces[n + 1:]]
 
 
-def places_of(pieces):
+def places_of(pieces, version=VERSION_1):
     """Where entries begin, and where the last ends."""
     places = [0]
     for piece in pieces:
-        places.append(places[-1] + 6 + len(piece.octets))
+        places.append(places[-1] + entry_size(version, piece.octets))
     return places
 
 
@@ -87,7 +89,8 @@ def places_of(pieces):
 def room_for(file, junction, record):
     """The bytes of the file that a put makes."""
     version, there = found_in(file)
-    return size_of(version, after_put(there, junction, bytes(cp_size(record))))
+    junctions = after_put(there, junction, bytes(cp_size(record)))
+    return size_of(grown(version, junctions), junctions)
 
 
 def a_put(file, junction, record, spare=0):
@@ -111,6 +114,13 @@ def any_call(draw, file, junction):
     if kind == 0:
         return put_case(file, junction, any_record(draw), len(file) + SPARE)
     return a_back(file, junction, draw.below(2)) if kind == 1 else look_up_case(file, junction)
+
+
+def without_buffer(draw, file, junction):
+    """One of the three calls, with no byte of a buffer."""
+    record = any_record(draw)
+    return draw.pick((put_case(file, junction, record, 0), back_case(file, junction, 0),
+                      look_up_case(file, junction)))
 
 
 def each_call(draw, file, junction):
@@ -157,53 +167,55 @@ def wrong_heads(draw):
     yield [one, old, one._replace(kind=2)]
 
 
-def wrong_starts(draw):
+def wrong_starts(draw, version=VERSION_1):
     """Files in which one start is another: a little more, far, past the end, another entry's."""
     pieces = pieces_of(draw, SHAPE)
-    places = places_of(pieces)
+    places = places_of(pieces, version)
     for n in range(len(pieces)):
         right = places[max(n - 1, 0)]
         far = draw.pick((places[-1], places[-1] + 4, right ^ 0x8000, 65535))
-        for start in (right + draw.pick((1, 256)), places[n] or 43, far):
-            yield built(changed(pieces, n, before=start))
+        for start in (right + draw.pick((1, 256)), places[n] or places[1], far):
+            yield built(changed(pieces, n, before=start), version)
     for last in (0, places[-2] - 1, places[-2] + 1, places[-3], places[-1], places[-2] + 256,
                  places[-2] + 2**15, 65535):
-        yield built(pieces, last=last)
+        yield built(pieces, version, last=last)
 
 
-def alone_starts(draw):
+def alone_starts(draw, version=VERSION_1):
     """Files of one entry and of none with a start that is not 0."""
     pieces = pieces_of(draw, [(9, 1)])
     for start in (1, 256):
-        yield built(changed(pieces, 0, before=start))
-        yield built(pieces, last=start)
-    yield built(changed(pieces, 0, before=43), last=43)
+        yield built(changed(pieces, 0, before=start), version)
+        yield built(pieces, version, last=start)
+    end = places_of(pieces, version)[1]
+    yield built(changed(pieces, 0, before=end), version, last=end)
 
 
-def wrong_trailers(draw):
+def wrong_trailers(draw, version=VERSION_1):
     """Files whose count, version or bytes before the trailer break a rule, each alone."""
     pieces = pieces_of(draw, SHAPE)
     for count in (0, 1, 3, 4, 6, 133, 255):
-        yield built(pieces, count=count)
-    for version in (0, 2, 3, 129, 255):
-        yield built(pieces, version=version)
+        yield built(pieces, version, count=count)
+    for byte in (0, 3 - version.byte, 3, 128 + version.byte, 255):
+        yield built(pieces, version, byte=byte)
     for between in (b"\0", b"\1", draw.octets(2), draw.octets(3), bytes(4), bytes(5),
-                    EMPTY_FILE, draw.octets(30)):
-        yield built(pieces, between=between)
-    yield built(pieces[:1], count=0)
-    yield built(pieces[:1], count=2)
-    yield built(pieces[:3], between=built(pieces[3:4])[:-4])
+                    built([], version), draw.octets(30)):
+        yield built(pieces, version, between=between)
+    yield built(pieces[:1], version, count=0)
+    yield built(pieces[:1], version, count=2)
+    fourth = built(pieces[3:4], version)[:-trailer_size(version)]
+    yield built(pieces[:3], version, between=fourth)
 
 
-def wrong_sizes(draw):
+def wrong_sizes(draw, version=VERSION_1):
     """Files in which a CP's length byte runs past the end, or does not reach the next entry."""
     pieces = pieces_of(draw, SHAPE)
     for size in (0, 36, 38, 80, 255):
-        yield built(changed(pieces, draw.below(4), size=size))
+        yield built(changed(pieces, draw.below(4), size=size), version)
     for size in (36, 38, 39, 41, 43, 54, 255):
-        yield built(changed(pieces, len(pieces) - 1, size=size))
+        yield built(changed(pieces, len(pieces) - 1, size=size), version)
     for size in (0, 38, 255):
-        yield built([Piece(4, CURRENT, a_cp(draw), None, size)])
+        yield built([Piece(4, CURRENT, a_cp(draw), None, size)], version)
 
 
 def rules_broken(draw):
@@ -420,7 +432,10 @@ def a_broken_file(draw, pieces):
 
 
 def faulty_put(draw, numbers):
-    """A put in which the refusals of `numbers` hold."""
+    """A put in which the refusals of `numbers` hold but for 24.
+
+    With 24 a 41st junction is put into a file of version 1, which is no fault.
+    """
     record = faulty_record(draw, numbers, most_index=255 if 17 in numbers else 6)
     shape = numbered(draw, 40) if 24 in numbers else [(5, 1), (258, 2)]
     pieces = pieces_of(draw, shape)
@@ -501,7 +516,7 @@ def many_entries(draw):
 
 
 def fullest_file(draw):
-    """40 junctions of two settings of six masks each: 10,244 bytes, the longest file."""
+    """40 junctions of two settings of six masks each: 10,244 bytes, the longest of version 1."""
     shape = numbered(draw, 40, 2)
     file = a_file(draw, shape, 5)
     yield a_put(file, shape[17][0], any_record(draw, 5))
@@ -513,7 +528,7 @@ def fullest_file(draw):
 
 
 def too_long_files(draw):
-    """More bytes than a file can have, and as many entries as a byte cannot count."""
+    """More bytes than version 1 can have, and as many entries as a byte cannot count."""
     yield look_up_case(a_file(draw, numbered(draw, 46, 2), 5), 0)
     yield back_case(built([Piece(n, CURRENT, b"") for n in range(257)]), 256, 0)
 
@@ -550,13 +565,272 @@ def long_lists(draw):
     yield from operations(draw, a_file(draw, ((2, 1), (8, 2), (256, 2))), (2, 8, 256, 513), 40)
 
 
+# Version 2
+
+EMPTY_2 = bytes.fromhex("00000000000002")
+
+# Widths of neither version, each with the byte of one.
+OTHER_WIDTHS = (VERSION_1._replace(byte=2), VERSION_2._replace(byte=1),
+                VERSION_2._replace(start_width=2), VERSION_2._replace(start_width=3),
+                VERSION_2._replace(count_width=1), VERSION_2._replace(count_width=4),
+                VERSION_1._replace(start_width=4), VERSION_1._replace(count_width=2))
+
+
+def without_entries_2(draw):
+    """A file of version 2 without entries, and bytes that are not quite one."""
+    for junction in (0, 65535):
+        yield look_up_case(EMPTY_2, junction)
+        yield a_back(EMPTY_2, junction)
+        yield a_put(EMPTY_2, junction, EXAMPLE)
+    yield a_put(EMPTY_2, 256, ALL_FULL, 1)
+    yield put_case(EMPTY_2, 256, EXAMPLE, 51)
+    for size in (1, 2, 3, 4, 5, 6, 8, 9):
+        yield without_buffer(draw, bytes(size - 1) + b"\2", 0)
+    for place in range(6):
+        yield without_buffer(draw, bytes(place) + b"\1" + EMPTY_2[place + 1:], 0)
+    for byte in (0, 1, 3, 130, 255):
+        yield without_buffer(draw, EMPTY_2[:-1] + bytes([byte]), 0)
+
+
+def few_in_version_2(draw):
+    """Few junctions in version 2, CPs of each length: put, exchanged, shown."""
+    file = a_file(draw, SHAPE, 0, VERSION_2)
+    for junction in (0, 3, 260, 701):
+        yield a_put(file, junction, any_record(draw, draw.pick((0, 0, 1))))
+    yield back_case(file, 260, len(file))
+    yield look_up_case(file, 4)
+    yield from there_and_back(a_file(draw, [(256, 2)], 0, VERSION_2), 256)
+    for g in range(6):
+        file = a_file(draw, ((2, 2), (40, 1)), g, VERSION_2)
+        yield look_up_case(file, draw.pick((2, 40)))
+        yield a_put(file, draw.pick((2, 40, 41)), any_record(draw, 5 - g), draw.below(2))
+        yield a_back(file, 2)
+
+
+def short_buffers_2(draw):
+    """Buffers too short for a file of version 2, by a byte and by the trailer."""
+    file = a_file(draw, ((2, 2), (40, 1)), 1, VERSION_2)
+    needed = room_for(file, 2, EXAMPLE)
+    for less in (1, trailer_size(VERSION_2)):
+        yield put_case(file, 2, EXAMPLE, needed - less)
+        yield back_case(file, 2, len(file) - less)
+
+
+def high_bytes(draw):
+    """Files of version 2 whose starts or count are right but for a high byte."""
+    pieces = pieces_of(draw, SHAPE)
+    places = places_of(pieces, VERSION_2)
+    for more in (2**8, 2**16, 2**24, 2**31):
+        for n in (0, draw.between(1, 3), 4):
+            wrong = changed(pieces, n, before=places[max(n - 1, 0)] + more)
+            yield built(wrong, VERSION_2)
+        yield built(pieces, VERSION_2, last=places[4] + more)
+    for more in (2**8, 2**9, 2**15):
+        yield built(pieces, VERSION_2, count=5 + more)
+
+
+def swapped_bytes(draw):
+    """Files of version 2 whose starts or count have their bytes in another order."""
+    pieces = pieces_of(draw, SHAPE)
+    places = places_of(pieces, VERSION_2)
+    yield built(pieces, VERSION_2, last=places[4] << 16)
+    yield built(pieces, VERSION_2, last=places[4] << 24)
+    yield built(changed(pieces, 2, before=places[1] << 24), VERSION_2)
+    yield built(pieces, VERSION_2, count=5 << 8)
+
+
+def with_trailer(pieces, version, trailer):
+    """Entries in the widths of one version, and the trailer of another."""
+    entries = built(pieces, version)[:-trailer_size(version)]
+    last = places_of(pieces, version)[len(pieces) - 1]
+    return entries + built([], trailer, count=len(pieces), last=last)
+
+
+def other_widths(draw):
+    """Files with the widths of one version and the byte of the other, and with mixed widths."""
+    for shape in ([(9, 1)], SHAPE):
+        pieces = pieces_of(draw, shape)
+        for widths in OTHER_WIDTHS:
+            yield built(pieces, widths)
+        for widths in OTHER_WIDTHS[2:4]:
+            yield with_trailer(pieces, VERSION_2, widths)
+            yield with_trailer(pieces, widths, VERSION_2)
+        yield with_trailer(pieces, VERSION_1, VERSION_2)
+        yield with_trailer(pieces, VERSION_2, VERSION_1)
+
+
+def cut_starts(draw):
+    """Files of version 2 of which some byte of a start or of the count is left out."""
+    pieces = pieces_of(draw, ((3, 2), (260, 1)))
+    file, places = built(pieces, VERSION_2), places_of(pieces, VERSION_2)
+    for end in (places[1], places[3], len(file) - 1, places[3] + 2):
+        for count in (1, 2):
+            yield file[:end - count] + file[end:]
+    yield from (file[:-count] for count in (1, 3, 7, 8))
+    yield from (file + more for more in (b"\0", b"\1", b"\2", EMPTY_2))
+
+
+def rules_broken_2(draw):
+    """Each rule of the file broken alone in version 2, by one call."""
+    for pieces in list(wrong_heads(draw))[::3]:
+        yield without_buffer(draw, built(pieces, VERSION_2), draw.pick(pieces).junction)
+    for files in (wrong_starts, alone_starts, wrong_trailers, wrong_sizes):
+        for file in files(draw, VERSION_2):
+            yield without_buffer(draw, file, draw.pick((3, 4, 9, 260, 700)))
+    for files in (high_bytes, swapped_bytes, other_widths, cut_starts):
+        for file in files(draw):
+            yield without_buffer(draw, file, draw.pick((3, 9, 260, 700)))
+    pieces = pieces_of(draw, ((3, 2), (260, 1)))
+    for refusal in CP_NUMBERS:
+        wrong = changed(pieces, draw.below(3), octets=refused_cp(draw, refusal))
+        yield without_buffer(draw, built(wrong, VERSION_2), draw.pick((3, 260)))
+    for size in (0, 36, 38):
+        wrong = changed(pieces, draw.below(3), octets=a_cp(draw, 1)[:size])
+        yield without_buffer(draw, built(wrong, VERSION_2), 3)
+
+
+def flips_2(draw):
+    """One bit or byte changed in a file of version 2: each that is of no CP, some of one."""
+    file = built([Piece(258, CURRENT, plain(EXAMPLE))], VERSION_2)
+    for place in (*range(4), 10, 40, *range(41, len(file))):
+        flipped = bytearray(file)
+        flipped[place] ^= draw.pick((1 << draw.below(8), draw.between(1, 255)))
+        yield look_up_case(bytes(flipped), 258)
+
+
+# From one version to the other
+
+def turned_by_puts(draw):
+    """A 41st junction: first, in the middle and last; CPs of several lengths; short buffers."""
+    shape = [(junction, 1 + (n % 8 == 3)) for n, (junction, _) in enumerate(numbered(draw, 40))]
+    pieces = pieces_of(draw, shape)
+    pieces = changed(changed(pieces, 2, octets=a_cp(draw, 5)), 30, octets=a_cp(draw, 1))
+    file, middle = built(pieces), shape[20][0] + 1
+    for junction, g in ((0, 0), (middle, 5), (65535, 1)):
+        yield a_put(file, junction, any_record(draw, g))
+    needed = room_for(file, middle, EXAMPLE)
+    in_version_1 = size_of(VERSION_1, after_put(found_in(file)[1], middle, bytes(37)))
+    for room in (needed - 1, in_version_1):
+        yield put_case(file, middle, EXAMPLE, room)
+    file = outcome(a_put(file, middle, EXAMPLE))[2]
+    for junction in (shape[0][0], shape[3][0], middle):
+        yield look_up_case(file, junction)
+    yield a_back(file, shape[3][0])
+
+
+def forty_in_version_2(draw):
+    """39, 40 and 41 junctions in version 2, which stays that: put, gone back to and shown."""
+    shape = [(junction, 1 + (n == 20)) for n, (junction, _) in enumerate(numbered(draw, 41))]
+    pieces = pieces_of(draw, shape)
+    yield a_put(built(pieces[:40], VERSION_2), 65535, EXAMPLE)
+    for count in (40, 41):
+        file = built(pieces[:count + 1], VERSION_2)
+        yield a_put(file, 0, EXAMPLE)
+        yield a_put(file, shape[count - 1][0], EXAMPLE)
+        yield a_back(file, shape[20][0])
+        yield look_up_case(file, shape[20][0])
+
+
+def across_the_turn(draw):
+    """Calls one after another, from 38 junctions in version 1 to 42 in version 2, then shown."""
+    def put(file, junction):
+        return a_put(file, junction, any_record(draw))
+    shape = numbered(draw, 38)
+    file, there = a_file(draw, shape), [junction for junction, _ in shape]
+    for call, junction in ((put, there[5]), (put, 0), (put, 65535), (a_back, there[5]),
+                           (put, there[20] + 1), (a_back, there[5]), (put, there[37]),
+                           (put, there[8] + 1), (a_back, there[5])):
+        case = call(file, junction)
+        yield case
+        file = outcome(case)[2]
+    for junction in (0, there[0], there[5], there[20] + 1, there[37]):
+        yield look_up_case(file, junction)
+
+
+def lists_in_version_2(draw):
+    """A list of calls on a few junctions in version 2."""
+    yield from operations(draw, EMPTY_2, (0, 300, 65535), 20)
+
+
+# 400 junctions
+
+def near_the_most_2(draw):
+    """399, 400 and 401 junctions: a put of one more, one that is there, gone back to and shown."""
+    shape = numbered(draw, 401)
+    pieces = pieces_of(draw, shape)
+    middle, last = shape[200][0], shape[400][0]
+    case = a_put(built([*pieces[:200], *pieces[201:400]], VERSION_2), middle, EXAMPLE)
+    yield case
+    file = outcome(case)[2]
+    yield a_put(file, last, EXAMPLE)
+    yield put_case(file, 0, EXAMPLE, 0)
+    case = a_put(file, shape[399][0], any_record(draw))
+    yield case
+    yield a_back(outcome(case)[2], shape[399][0])
+    yield look_up_case(file, shape[0][0])
+    yield look_up_case(file, last)
+    over = built(pieces, VERSION_2)
+    yield put_case(over, middle, EXAMPLE, 0)
+    yield back_case(over, middle, 0)
+    yield look_up_case(over, last)
+
+
+def hollow_file(shape):
+    """A file of junctions whose one rule broken is that their CPs have no byte."""
+    return built([Piece(junction, CURRENT, b"") for junction, _ in shape], VERSION_2)
+
+
+def refused_at_the_most(draw):
+    """A put of a 401st junction into a file with refused CPs, alone and with other refusals."""
+    file = hollow_file(numbered(draw, 400))
+    yield a_put(file, 0, EXAMPLE)
+    yield put_case(file, 0, EXAMPLE, 0)
+    for refusal in (4, 9, 10, 25, 11, 12):
+        yield put_case(file, 0, faulty_record(draw, {refusal}, most_index=6), 0)
+    yield put_case(hollow_file(numbered(draw, 399)), 0, EXAMPLE, 0)
+
+
+# Starts of three bytes
+
+def up_to_the_third_byte(draw):
+    """263 junctions with room for 62 bytes before the last entries begin at 65,536."""
+    shape = numbered(draw, 263, 2)
+    shape[0] = shape[0][0], 1
+    return [*pieces_of(draw, shape[:19], 1), *pieces_of(draw, shape[19:262], 5),
+            *pieces_of(draw, shape[262:])]
+
+
+def third_byte(draw):
+    """A file with a start of 65,536: made by a put below it, then gone back to behind it."""
+    pieces = up_to_the_third_byte(draw)
+    case = a_put(built(pieces, VERSION_2), 0, any_record(draw, 1))
+    yield case
+    yield a_back(outcome(case)[2], pieces[-1].junction)
+
+
+def longest_file(draw):
+    """400 junctions of two settings of six masks each: 104,007 bytes, the longest file."""
+    shape = numbered(draw, 400, 2)
+    file = a_file(draw, shape, 5, VERSION_2)
+    yield a_put(file, shape[252][0], any_record(draw, 5))
+    yield look_up_case(file, shape[399][0])
+
+
+GROUPS = (short_files, rules_broken, cps_refused, cps_of_other_lengths, cut_files, lengthened_files,
+          random_files, flips, without_entries, each_length, several_rates, junction_numbers,
+          places_of_puts, alike_settings, buffers, faulty_cases, near_the_most, many_entries,
+          fullest_file, too_long_files, long_lists)
+
+GROUPS_OF_BOTH = (without_entries_2, few_in_version_2, short_buffers_2, rules_broken_2, flips_2,
+                  turned_by_puts, forty_in_version_2, across_the_turn, lists_in_version_2,
+                  near_the_most_2, refused_at_the_most, third_byte, longest_file)
+
+
 def cases():
-    """The stored cases in order."""
-    draw, found = Draw(9108), []
-    for group in (short_files, rules_broken, cps_refused, cps_of_other_lengths, cut_files,
-                  lengthened_files, random_files, flips, without_entries, each_length,
-                  several_rates, junction_numbers, places_of_puts, alike_settings, buffers,
-                  faulty_cases, near_the_most, many_entries, fullest_file, too_long_files,
-                  long_lists):
-        found += group(draw)
+    """The stored cases in order; those of version 2 have draws of their own."""
+    found = []
+    for seed, groups in ((9108, GROUPS), (9109, GROUPS_OF_BOTH)):
+        draw = Draw(seed)
+        for group in groups:
+            found += group(draw)
     return found

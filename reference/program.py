@@ -28,9 +28,9 @@ from table1 import A, MU, ucode_of
 
 LAWS = {"mu": MU, "ulaw": MU, "a": A, "alaw": A}
 MOST_RUNS = 20
-VERSION = "v91 7"
+VERSION = "v91 8"
 JUNCTIONS = range(65536)
-MOST_OF_SETTINGS = 16_384
+MOST_OF_SETTINGS = 131_072
 HELP = ("help", "--help", "-h")
 
 NO_FILE = "there is no such file"
@@ -550,6 +550,9 @@ def tell_flip(call, cp_name):
 # or None.
 Row = namedtuple("Row", "junction current previous")
 
+# The versions of a file by the word that names them.
+FILE_VERSIONS = {str(version.byte): version for version in settings.VERSIONS}
+
 TABLE_HEAD = "junction  rate            M0   M1   M2   M3   M4   M5  previous"
 
 
@@ -635,11 +638,13 @@ def back_sentence(junction, current, previous):
     return f"junction {junction}: back to {rate_words(current)}, {kept_words(previous)}"
 
 
-def new_settings(call, name):
-    """`settings FILE new`."""
+def new_settings(call, name, word="1"):
+    """`settings FILE new [1|2]`."""
+    if word not in FILE_VERSIONS:
+        raise Failed(f"after new there may be the version, 1 or 2, not {shown(word)}")
     if name in call.files:
         raise Failed(f"{shown(name)} is there already; it is as it was")
-    save(call.files, name, settings.EMPTY_FILE)
+    save(call.files, name, settings.write([], FILE_VERSIONS[word]))
     call.say(f"{shown(name)} made, with no junction")
 
 
@@ -695,7 +700,7 @@ def show_setting(call, name, word, *form):
 
 
 # Each word after FILE with the least and the most words after it.
-SETTINGS = {"new": (new_settings, 0, 0), "list": (list_settings, 0, 0), "put": (put_setting, 2, 2),
+SETTINGS = {"new": (new_settings, 0, 1), "list": (list_settings, 0, 0), "put": (put_setting, 2, 2),
             "back": (back_setting, 1, 1), "show": (show_setting, 1, 2)}
 
 

@@ -1,4 +1,4 @@
-"""The junction settings file: A.7 of document 02.
+"""The junction settings file: A.7 and A.9 of document 02.
 
 A file has entries that lie end to end from place 0, then a trailer. An entry is one setting of a
 junction: the junction number, a byte for current or previous, a byte with the length of the CP in
@@ -21,7 +21,8 @@ from refusals import Refusal
 Version = namedtuple("Version", "start_width count_width most_junctions byte")
 
 VERSION_1 = Version(start_width=2, count_width=1, most_junctions=40, byte=1)
-VERSIONS = (VERSION_1,)
+VERSION_2 = Version(start_width=4, count_width=2, most_junctions=400, byte=2)
+VERSIONS = (VERSION_1, VERSION_2)
 
 CURRENT, PREVIOUS = 0, 1
 JUNCTION_WIDTH = 2
@@ -32,7 +33,7 @@ HEAD_WIDTH = JUNCTION_WIDTH + 2
 # The length of a CP in bits by its length in bytes; no other number of bytes is a CP.
 CP_BITS = {(length(g) + 7) // 8: length(g) for g in range(6)}
 
-# A file without entries.
+# A file without entries, of version 1.
 EMPTY_FILE = bytes([0, 0, 0, 1])
 
 Entry = namedtuple("Entry", "place junction kind octets before")
@@ -246,6 +247,11 @@ def after_back(junctions, junction):
     return replaced(junctions, here._replace(current=here.previous, previous=here.current))
 
 
+def grown(version, junctions):
+    """The version that a put leaves: the file's own while it has room, else the largest."""
+    return version if len(junctions) <= version.most_junctions else VERSIONS[-1]
+
+
 def cp_size(record):
     """The bytes of a record's CP."""
     return (length(max(record.indices)) + 7) // 8
@@ -273,9 +279,10 @@ def put_faults(file, junction, record, out):
     yield from record_faults(record)
     if read(file) is None:
         yield Refusal(22)
-    if at(there, junction) is None and len(there) >= version.most_junctions:
+    if at(there, junction) is None and len(there) >= VERSIONS[-1].most_junctions:
         yield Refusal(24)
-    if len(out) < size_of(version, after_put(there, junction, bytes(cp_size(record)))):
+    junctions = after_put(there, junction, bytes(cp_size(record)))
+    if len(out) < size_of(grown(version, junctions), junctions):
         yield Refusal(17)
 
 
@@ -285,7 +292,7 @@ def put(file, junction, record, out):
     if refusal:
         return refusal, 0, bytes(out)
     settings = after_put(read(file), junction, cp_octets(record))
-    return written(write(settings, version_of(file)), out)
+    return written(write(settings, grown(version_of(file), settings)), out)
 
 
 def back_faults(file, junction, out):

@@ -1683,16 +1683,19 @@ def stored_flips():
     return f"{len(found)} cases, {len(good)} of them with good frames"
 
 
-# Junction settings (A.7)
+# Junction settings (A.7 and A.9)
 
 # A file of junction 5 alone with the record of the examples.
 ONE_SETTING = bytes.fromhex("05000025ffff1900000000000000000000000000007e000000000000000000000000"
                             "00000000e0d000000001000001")
 
+# The same in version 2.
+ONE_SETTING_2 = ONE_SETTING[:41] + bytes.fromhex("00000000" "0100" "00000000" "02")
+
 
 def settings_put(file, junction, record):
-    """The file after a put that is not declined."""
-    refusal, size, out = settings.put(file, junction, record, bytes(10300))
+    """The file after a put that is not declined; at most 293 bytes are added to one."""
+    refusal, size, out = settings.put(file, junction, record, bytes(len(file) + 293))
     same(refusal, None, "refusal of put")
     return out[:size]
 
@@ -1729,7 +1732,27 @@ def settings_values():
     same((len(full), full[-4:]), (10244, bytes.fromhex("5080") + b"\x27\1"), "the longest file")
     lengths = {37: 294, 54: 426, 71: 564, 88: 702, 105: 834, 122: 972}
     same(settings.CP_BITS, lengths, "CP lengths")
-    return "7 files"
+    return f"{7 + settings_values_2(draw, full)} files"
+
+
+def settings_values_2(draw, full):
+    """Files of version 2 made by hand, one made of the longest of version 1, the longest ones."""
+    empty = bytes.fromhex("00000000000002")
+    same(settings.write([], settings.VERSION_2), empty, "no junctions in version 2")
+    same(settings.read(empty), [], "a file of version 2 without entries")
+    same(settings_put(empty, 5, EXAMPLE), ONE_SETTING_2, "the first put in version 2")
+    two = settings_put(ONE_SETTING_2, 5, EMPTY)
+    same(two[-7:], bytes.fromhex("0200" "2d000000" "02"), "the trailer of two settings")
+    three = settings_put(two, 256, EXAMPLE)
+    same((three[90:94], three[131:]), (bytes.fromhex("00010025"), bytes.fromhex(
+        "2d000000" "0300" "5a000000" "02")), "the third entry")
+    turned = settings_put(full, 65535, EXAMPLE)
+    same((len(turned), turned[-11:]), (10452, bytes.fromhex("1e280000" "5100" "a0280000" "02")),
+         "a 41st junction")
+    same(settings.read(turned)[:40], settings.read(full), "settings of 40 junctions")
+    most = cases_settings.a_file(draw, cases_settings.numbered(draw, 400, 2), 5, settings.VERSION_2)
+    same((len(most), most[-7:]), (104007, bytes.fromhex("2003" "be950100" "02")), "the longest one")
+    return 7
 
 
 def some_junctions(draw, most):
@@ -1744,33 +1767,37 @@ def some_junctions(draw, most):
 def settings_round_trips():
     """Junctions written and read, and files read and written, are as they were."""
     draw = Draw(23)
-    for _ in range(150):
-        junctions = some_junctions(draw, draw.pick((3, 8, 40)))
-        file = settings.write(junctions)
-        same(settings.read(file), junctions, "junctions there and back")
-        same(len(file), settings.size_of(settings.VERSION_1, junctions), "size")
-        pieces = [cases_settings.Piece(*one) for one in settings.settings_of(junctions)]
-        same(cases_settings.built(pieces), file, "written in another way")
-    return "150 files"
+    for version in settings.VERSIONS:
+        for _ in range(100):
+            junctions = some_junctions(draw, draw.pick((3, 8, 40)))
+            file = settings.write(junctions, version)
+            same(settings.read(file), junctions, "junctions there and back")
+            same(settings.version_of(file), version, "version")
+            same(len(file), settings.size_of(version, junctions), "size")
+            pieces = [cases_settings.Piece(*one) for one in settings.settings_of(junctions)]
+            same(cases_settings.built(pieces, version), file, "written in another way")
+    return "200 files"
 
 
 def as_written(file):
     """Whether a file is what the writer makes of junctions that follow the rules."""
-    junctions = settings.found_in(file)[1]
+    version, junctions = settings.found_in(file)
     numbers = [one.number for one in junctions]
-    return (numbers == sorted(set(numbers)) and len(numbers) <= 40
+    return (numbers == sorted(set(numbers)) and len(numbers) <= {1: 40, 2: 400}[version.byte]
             and all(one.current is not None for one in junctions)
             and all(settings.cp_accepted(octets)
                     for _, _, octets in settings.settings_of(junctions))
-            and settings.write(junctions) == file)
+            and settings.write(junctions, version) == file)
 
 
 def spoilt(draw, file):
     """A file with some bytes changed, left out, put in or exchanged; at times none."""
     file = bytearray(file)
     for _ in range(draw.pick((0, 1, 1, 1, 2))):
-        place, size = draw.below(len(file) + 1), draw.pick((0, 1, 1, 2, 43))
-        more = draw.pick((b"", bytes(1), draw.octets(1), bytes(file[:43]), bytes([draw.below(4)])))
+        entry = 41 + draw.pick((2, 4))
+        place, size = draw.below(len(file) + 1), draw.pick((0, 1, 1, 2, entry))
+        more = draw.pick((b"", bytes(1), draw.octets(1), bytes(file[:entry]),
+                          bytes([draw.below(4)])))
         file[place:place + size] = more
     return bytes(file)
 
@@ -1780,8 +1807,9 @@ def settings_rules():
     draw, kept = Draw(24), 0
     for n in range(6000):
         if n % 20 == 0:
-            small = settings.write(some_junctions(draw, 4))
-        file = spoilt(draw, small) if n % 8 else draw.octets(draw.below(60)) + b"\1"
+            small = settings.write(some_junctions(draw, 4), draw.pick(settings.VERSIONS))
+        file = spoilt(draw, small) if n % 8 else draw.octets(draw.below(60)) + draw.pick((b"\1",
+                                                                                        b"\2"))
         right = as_written(file)
         same(settings.read(file) is not None, right, f"rules of {file.hex()}")
         kept += right
@@ -1832,44 +1860,114 @@ def settings_operations():
     draw = Draw(25)
     for _ in range(40):
         junctions = sorted({draw.bits(16) for _ in range(draw.between(1, 5))} - {77})
-        kept, file = {junction: [] for junction in junctions}, settings.EMPTY_FILE
+        version = draw.pick(settings.VERSIONS)
+        kept, file = {junction: [] for junction in junctions}, settings.write([], version)
         if draw.below(2):
-            begun = [settings.Junction(junction, cases_settings.a_cp(draw), None)
-                     for junction in junctions]
-            file = settings.write(begun)
-            kept = {one.number: [[settings.cp_reading(one.current)[1], one.current]]
-                    for one in begun}
+            file, kept = settings_begun(draw, junctions, version)
         for n in range(50):
             junction = draw.pick(junctions)
             file, kept[junction] = a_change(draw, file, junction, kept[junction])
             check_settings(file, kept, [junction] if n % 10 else junctions, 77)
+            same(settings.version_of(file), version, "version")
     return "2000 puts and goings back"
+
+
+def settings_begun(draw, junctions, version, g=0, each=1):
+    """(A file with one or two settings for each junction, these as `a_change` has them)."""
+    octets = {junction: [cases_settings.a_cp(draw, g) for _ in range(each)]
+              for junction in junctions}
+    kept = {junction: [[settings.cp_reading(one)[1], one] for one in some]
+            for junction, some in octets.items()}
+    return settings.write([settings.Junction(junction, *(*some, None)[:2])
+                           for junction, some in octets.items()], version), kept
+
+
+def settings_turns():
+    """A 41st junction makes version 2 of version 1, and nothing else does; none makes it back."""
+    draw, turned = Draw(27), 0
+    with changed({"settings.cp_reading": lru_cache(maxsize=None)(settings.cp_reading)}):
+        for n in range(24):
+            numbers = [each for each, _ in cases_settings.numbered(draw, 44)]
+            begun = numbers[n % 5:][:draw.between(38, 40)]
+            version = settings.VERSIONS[n % 4 == 3]
+            file, kept = settings_begun(draw, begun, version, 0, 1 + n % 2)
+            for _ in range(14):
+                absent = [junction for junction in numbers if not kept.get(junction)]
+                junction = draw.pick(absent if absent and draw.below(3) else numbers)
+                file, before = check_turn(draw, file, kept, junction), file
+                turned += file[-1] != before[-1]
+    check(turned >= 12, "files that turn")
+    return f"24 files, {turned} of them turned"
+
+
+def check_turn(draw, file, kept, junction):
+    """The file after a put or going back, in the version that it is to have."""
+    after, kept[junction] = a_change(draw, file, junction, kept.get(junction, []))
+    check_settings(after, kept, kept if after[-1] != file[-1] else [junction], 0)
+    most = 40 if file[-1] == 1 else 400
+    same(after[-1], 2 if len(settings.read(after)) > most else file[-1], "version")
+    return after
+
+
+def settings_most():
+    """400 junctions and no more; starts of three bytes, with puts below them, there and above."""
+    draw = Draw(28)
+    numbers = [each for each, _ in cases_settings.numbered(draw, 401)]
+    with changed({"settings.cp_reading": lru_cache(maxsize=None)(settings.cp_reading)}):
+        file, kept = settings_begun(draw, numbers[:399], settings.VERSION_2, 5, 2)
+        for junction in (numbers[399], numbers[0], numbers[252], numbers[399]):
+            file = settings_put(file, junction, cases_cp.ALL_FULL)
+            full = [cases_cp.ALL_FULL, cases_cp.plain(cases_cp.ALL_FULL)]
+            kept[junction] = [full, *kept.get(junction, [])[:1]]
+            check_settings(file, kept, [*numbers[:400:80], junction], numbers[400])
+            check(settings.parts_of(file).last > 2**16, "starts of three bytes")
+        for junction in (numbers[0], numbers[252], numbers[399]):
+            file = gone_back(file, junction)
+            kept[junction].reverse()
+            check_settings(file, kept, [numbers[398], junction], numbers[400])
+        same((len(file), len(settings.read(file))), (104007, 400), "the longest file")
+        lent = bytes(len(file) + 300)
+        same(settings.put(file, numbers[400], EXAMPLE, lent), (Refusal(24), 0, lent), "a 401st")
+        over = settings.write([*settings.read(file), settings.Junction(
+            65535, cases_cp.plain(EXAMPLE), None)], settings.VERSION_2)
+        same((settings.put(over, 65535, EXAMPLE, lent)[0], settings.look_up(over, 65535)[0],
+              settings.go_back(over, numbers[0], lent)[0]), (Refusal(22),) * 3, "401 in a file")
+    return f"{len(file)} bytes"
 
 
 def settings_refusals():
     """put declines as the writer, then with 22, 24 and 17; the others with 22, 23 and 17."""
     draw = Draw(26)
-    pieces = cases_settings.pieces_of(draw, cases_settings.numbered(draw, 40))
-    for _ in range(300):
-        record = faulty_record(draw, {draw.pick((4, 9, 10, 25, 11, 12))})
-        record = draw.pick((record, a_sparse_record(draw), a_record(draw, 0)))
-        first = cp.write_cp(record, bytes(5000))[0]
-        faults = [number for number in (22, 24, 17) if draw.below(2)]
-        some = pieces if 24 in faults else pieces[draw.between(1, 38):]
-        file = cases_settings.built(some, count=0 if 22 in faults else None)
-        needed = len(file) + 6 + settings.cp_size(record)
-        lent = bytes(draw.below(min(needed, 3000)) if 17 in faults else needed)
-        refusal, *left = settings.put(file, 0, record, lent)
-        same(refusal, first or next(map(Refusal, faults), None), f"with {faults}")
-        check(not refusal or left == [0, lent], "what a refusal leaves")
-        there = draw.pick(some).junction
-        for junction, known in ((0, False), (there, True)):
-            refusal = settings.look_up(file, junction)[0]
-            wanted = 22 if 22 in faults else None if known else 23
-            same(refusal.number if refusal else None, wanted, "look-up")
-            refusal = settings.go_back(file, junction, lent)[0]
-            same(refusal.number, 22 if 22 in faults else 23, "going back")
-    return "300 records and files"
+    pieces = cases_settings.pieces_of(draw, cases_settings.numbered(draw, 400))
+    with changed({"settings.cp_reading": lru_cache(maxsize=None)(settings.cp_reading)}):
+        for _ in range(400):
+            record = faulty_record(draw, {draw.pick((4, 9, 10, 25, 11, 12))})
+            record = draw.pick((record, a_sparse_record(draw), a_record(draw, 0)))
+            faults = [number for number in (22, 24, 17) if draw.below(2)]
+            check_refusals(draw, pieces, record, faults)
+    return "400 records and files"
+
+
+def check_refusals(draw, pieces, record, faults):
+    """The three entries with some of 22, 24 and 17; a file of 40 junctions is turned by a put."""
+    version = settings.VERSION_2 if 24 in faults else draw.pick(settings.VERSIONS)
+    most = version.most_junctions
+    count = most if 24 in faults else draw.pick((40, draw.between(1, most - 1)))
+    file = cases_settings.built(pieces[:count], version, count=0 if 22 in faults else None)
+    start, trailer = (2, 4) if version.byte == 1 and count < 40 else (4, 7)
+    needed = count * (41 + start) + 4 + settings.cp_size(record) + start + trailer
+    room = draw.pick((needed - 1, draw.below(needed))) if 17 in faults else needed
+    lent, first = bytes(room), cp.write_cp(record, bytes(5000))[0]
+    refusal, *left = settings.put(file, 0, record, lent)
+    same(refusal, first or next(map(Refusal, faults), None), f"with {faults}")
+    check(left == [0, lent] if refusal else left[0] == needed, "what is left")
+    there = draw.pick(pieces[:count]).junction
+    for junction, known in ((0, False), (there, True)):
+        refusal = settings.look_up(file, junction)[0]
+        wanted = 22 if 22 in faults else None if known else 23
+        same(refusal.number if refusal else None, wanted, "look-up")
+        refusal = settings.go_back(file, junction, lent)[0]
+        same(refusal.number, 22 if 22 in faults else 23, "going back")
 
 
 RULE_NAMES = [rule.__name__ for rule in settings.RULES]
@@ -1888,28 +1986,68 @@ def settings_met(both):
     broken, sizes, entries, kept = set(), set(), set(), 0
     for case, answer in both:
         kind, (file, junction, *_) = forms.arguments(case)
-        broken.add((kind, *broken_rules(file)))
-        there = settings.found_in(file)[1]
-        sizes.add((len(there), kind, answer[0]))
+        version, there = settings.found_in(file)
+        broken.add((version.byte, *broken_rules(file)))
+        sizes.add((version.byte, len(there), kind, answer[0]))
         if answer[0] == 0:
             one = settings.at(there, junction)
             settings_there = 0 if one is None else 1 if one.previous is None else 2
-            entries.add((kind, settings_there))
+            entries.add((version.byte, kind, settings_there))
             copied = [octets for _, _, octets in settings.settings_of(there)
                       if octets != settings.cp_octets(settings.cp_reading(octets)[1])]
             kept += kind != forms.LOOK_UP and any(octets in answer for octets in copied)
     return broken, sizes, entries, kept
 
 
+def sizes_wanted():
+    """(Version, junctions, kind, refusal) that stored cases of the settings file must have."""
+    puts = {1: ((0, 0), (39, 0), (40, 0)),
+            2: ((0, 0), (39, 0), (40, 0), (41, 0), (399, 0), (400, 0), (400, 24))}
+    backs = {1: ((0, 23), (40, 0)), 2: ((0, 23), (1, 0), (40, 0), (41, 0), (400, 0))}
+    looks = {1: ((0, 23), (40, 0)), 2: ((0, 23), (41, 0), (400, 0), (400, 23))}
+    found = {(version, count, kind, refusal)
+             for kind, some in ((forms.PUT, puts), (forms.BACK, backs), (forms.LOOK_UP, looks))
+             for version, pairs in some.items() for count, refusal in pairs}
+    return found | {(version, most + 1, kind, 22) for version, most in ((1, 40), (2, 400))
+                    for kind in (forms.PUT, forms.BACK, forms.LOOK_UP)}
+
+
+def versions_met(both):
+    """(Version before, version after) of stored puts and goings back that are accepted."""
+    found = []
+    for case, answer in both:
+        if case[0] != forms.LOOK_UP and not answer[0]:
+            file = forms.arguments(case)[1][0]
+            found.append((file[-1], forms.outcome(case)[2][forms.outcome(case)[1] - 1]))
+    return found
+
+
+def check_versions(both):
+    """Version 1 stays, and turns in some puts; version 2 stays; starts have a third byte."""
+    found = versions_met(both)
+    same(set(found), {(1, 1), (1, 2), (2, 2)}, "versions")
+    check(found.count((1, 2)) >= 8 and found.count((2, 2)) >= 50, "files of version 2")
+    files = {forms.arguments(case)[1][0] for case, _ in both}
+    check({10244, 104007} <= {len(file) for file in files}, "the longest files")
+    places = {entry.place for file in files if len(file) > 2**16
+              for entry in settings.parts_of(file).entries}
+    check({2**16, 103870} <= places, "starts of three bytes")
+
+
 def stored_settings():
     """What the stored cases of the settings file must have; their answers are the model's."""
-    both = stored_pairs("vectors_settings")
+    with changed({"settings.read_cp": lru_cache(maxsize=None)(cp.read_cp)}):
+        return check_stored_settings(stored_pairs("vectors_settings"))
+
+
+def check_stored_settings(both):
+    """What is said of the stored cases of the settings file."""
     for case, answer in both:
         same(forms.answer(case).hex(), answer.hex(), f"answer to {case.hex()}")
-        check(max(len(case), len(answer)) <= 12000, "a line of vectors_settings")
-    check(350 <= len(both) <= 650, "lines of vectors_settings")
+        check(max(len(case), len(answer)) <= 131_072, "a line of vectors_settings")
+    check(800 <= len(both) <= 1000, "lines of vectors_settings")
     texts = [stored_text(f"vectors_settings/{name}") for name in ("stdin", "stdout")]
-    check(sum(map(len, texts)) < 1_200_000, "size of vectors_settings")
+    check(sum(map(len, texts)) < 3_000_000, "size of vectors_settings")
     alone, met = refusals_met(both)
     wanted = {forms.PUT: (cases_settings.PUT_NUMBERS, cases_cp.pairs(cases_settings.PUT_NUMBERS)),
               forms.BACK: ((22, 23, 17), ((22, 23), (22, 17), (23, 17))),
@@ -1918,18 +2056,18 @@ def stored_settings():
          "refusals alone")
     same(met, {(kind, *pair) for kind, (_, pairs) in wanted.items() for pair in pairs}, "pairs")
     broken, sizes, entries, kept = settings_met(both)
-    check({(name,) for name in [*RULE_NAMES, "no parts"]} <= {names[1:] for names in broken},
-          "rules broken alone")
-    check({(41, kind, 22) for kind in wanted} | {(40, forms.PUT, 0), (40, forms.PUT, 24),
-          (39, forms.PUT, 0), (0, forms.PUT, 0), (0, forms.BACK, 23)} <= sizes, "junctions")
-    same(entries, {(forms.PUT, 0), (forms.PUT, 1), (forms.PUT, 2), (forms.BACK, 2),
-                   (forms.LOOK_UP, 1), (forms.LOOK_UP, 2)}, "settings there")
-    check(kept >= 80, "ignored bits kept")
-    check(10244 in {len(forms.arguments(case)[1][0]) for case, _ in both}, "the longest file")
+    check({(version, name) for version in (1, 2) for name in RULE_NAMES} | {(1, "no parts")}
+          <= broken, "rules broken alone")
+    check(sizes_wanted() <= sizes, f"junctions: {sizes_wanted() - sizes}")
+    same(entries, {(version, *one) for version in (1, 2) for one in (
+        (forms.PUT, 0), (forms.PUT, 1), (forms.PUT, 2), (forms.BACK, 2), (forms.LOOK_UP, 1),
+        (forms.LOOK_UP, 2))}, "settings there")
+    check(kept >= 100, "ignored bits kept")
+    check_versions(both)
     left = {forms.outcome(case)[2] for case, answer in both
             if case[0] != forms.LOOK_UP and not answer[0]}
     after = sum(forms.arguments(case)[1][0] in left for case, _ in both)
-    check(after >= 100, "a file that another call left")
+    check(after >= 130, "a file that another call left")
     return f"{len(both)} cases, {after} of them with a file that another call left"
 
 
@@ -3919,9 +4057,9 @@ def wrong_flips():
 
 RIGHT_JUNCTIONS = {name: getattr(settings, name)
                   for name in ("after_back", "after_put", "at", "back_faults", "cp_octets",
-                               "cp_reading", "entry_at", "go_back", "junctions_in", "look_faults",
-                               "look_up", "parts_of", "put", "put_faults", "replaced",
-                               "settings_of", "version_of", "write", "written")}
+                               "cp_reading", "entry_at", "go_back", "grown", "junctions_in",
+                               "look_faults", "look_up", "parts_of", "put", "put_faults",
+                               "replaced", "settings_of", "version_of", "write", "written")}
 SETTINGS_ENTRIES = ("put", "go_back", "look_up")
 SETTINGS_FAULTS = ("put_faults", "back_faults", "look_faults")
 
@@ -4006,21 +4144,33 @@ def longer_cps(octets):
     return RIGHT_JUNCTIONS["cp_reading"](octets[:size])
 
 
+# What does not fit into its bytes is cut.
+CUT = {"settings.low_first": cases_settings.low_first}
+
+
 def version_by(**fields):
     """The changes that give files of version 1 other widths or bounds."""
-    return {"settings.VERSIONS": (settings.VERSION_1._replace(**fields),)}
+    return CUT | {"settings.VERSIONS": (settings.VERSION_1._replace(**fields), settings.VERSION_2)}
 
 
-def versions_taken(taken):
-    """The changes that take files with some last bytes for version 1."""
-    return {"settings.version_of": lambda file:
-            settings.VERSION_1 if file and taken(file[-1]) else None}
+def version_2_by(**fields):
+    """The changes that give files of version 2 other widths or bounds."""
+    return CUT | {"settings.VERSIONS": (settings.VERSION_1, settings.VERSION_2._replace(**fields))}
 
 
-def short_taken(least):
+def versions_taken(taken, version=settings.VERSION_1):
+    """The changes that take files with some last bytes for one version."""
+    return {"settings.version_of": lambda file: version if file and taken(file[-1])
+            else RIGHT_JUNCTIONS["version_of"](file)}
+
+
+def short_taken(least, byte=1):
     """The changes that take short files, of so many bytes or more, for one without entries."""
+    version = settings.VERSIONS[byte - 1]
     def filled(file):
-        return settings.EMPTY_FILE if least <= len(file) < 4 else file
+        named = byte == 1 or file[-1:] == bytes([byte])
+        short = least <= len(file) < settings.trailer_size(version)
+        return settings.write([], version) if named and short else file
     return {f"settings.{name}": (lambda right: lambda file: right(filled(file)))(
         RIGHT_JUNCTIONS[name]) for name in ("parts_of", "version_of")}
 
@@ -4042,7 +4192,7 @@ def named_by(change):
 
 def high_first(value, width):
     """A number with its high byte first; a CP is no number."""
-    return value.to_bytes(width, "big" if width <= 2 else "little")
+    return value.to_bytes(width, "big" if width <= 4 else "little")
 
 
 def last_of_junction(entries):
@@ -4084,7 +4234,7 @@ def three_kept(file, junction, record, out):
         settings.read(after[:size]))]
     place = [piece.junction for piece in pieces].index(junction) + 2
     pieces.insert(place, cases_settings.Piece(junction, settings.PREVIOUS, older.previous))
-    made = cases_settings.built(pieces)
+    made = cases_settings.built(pieces, settings.version_of(after[:size]))
     return None, len(made), (made + out[len(made):])[:len(out)]
 
 
@@ -4113,20 +4263,74 @@ def laid_by(order):
 
 
 def pieces_written(change):
-    """The changes that write other entries and trailers; `change` gives `built` its arguments."""
+    """The changes that write other entries and trailers; `change` gives `built` its arguments.
+
+    These are made from the right entries and the places where they begin.
+    """
     def write(junctions, version=settings.VERSION_1):
         pieces = [cases_settings.Piece(*one) for one in settings.settings_of(junctions)]
-        return cases_settings.built(**{"pieces": pieces} | change(pieces))
+        places = cases_settings.places_of(pieces, version)
+        return cases_settings.built(**{"pieces": pieces, "version": version}
+                                    | change(pieces, places))
     return {"settings.write": write}
 
 
 def starts_written(start):
     """The changes that write other starts, made from number and places of the entries."""
-    def change(pieces):
-        places = cases_settings.places_of(pieces)
-        return dict(pieces=[piece._replace(before=start(n, places))
-                            for n, piece in enumerate(pieces)])
-    return pieces_written(change)
+    return pieces_written(lambda pieces, places: dict(
+        pieces=[piece._replace(before=start(n, places)) for n, piece in enumerate(pieces)]))
+
+
+def junctions_written(change):
+    """The changes that write other junctions into a file of version 2, made from the right ones."""
+    return {"settings.write": lambda junctions, version=settings.VERSION_1: RIGHT_JUNCTIONS[
+        "write"](change(junctions) if version.byte == 2 else junctions, version)}
+
+
+def grown_by(chosen):
+    """The changes that leave another version after a put, by the file's own and its junctions."""
+    return CUT | {"settings.grown": lambda version, junctions: settings.VERSIONS[
+        chosen(version.byte, len(junctions)) - 1]}
+
+
+def back_in(chosen):
+    """The changes that leave another version after a going back, made as in `grown_by`."""
+    def go_back(file, junction, out):
+        refusal, size, after = RIGHT_JUNCTIONS["go_back"](file, junction, out)
+        if refusal:
+            return refusal, size, after
+        junctions = settings.read(after[:size])
+        version = settings.VERSIONS[chosen(file[-1], len(junctions)) - 1]
+        return settings.written(settings.write(junctions, version), out)
+    return CUT | {"settings.go_back": go_back}
+
+
+def room_in(version):
+    """The changes that ask for room in a version of their own, made from the file's and the new."""
+    def put_faults(file, junction, record, out):
+        yield from without(RIGHT_JUNCTIONS["put_faults"], 17)(file, junction, record, out)
+        own, there = settings.found_in(file)
+        junctions = settings.after_put(there, junction, bytes(settings.cp_size(record)))
+        if len(out) < settings.size_of(version(own, settings.grown(own, junctions)), junctions):
+            yield Refusal(17)
+    return {"settings.put_faults": put_faults}
+
+
+def full_by(most):
+    """The changes that let put have 24 for one junction more than so many, made from a version."""
+    def change(held, file, junction, *rest):
+        version, there = settings.found_in(file)
+        others = [fault for fault in held if fault.number != 24]
+        if settings.at(there, junction) is None and len(there) >= most(version):
+            others.append(Refusal(24))
+        return sorted(others, key=lambda fault: ORDER.index(fault.number))
+    return settings_faults(change, ("put_faults",))
+
+
+def few_by(most):
+    """The changes that let other numbers of junctions be in a file, made from a version."""
+    return rule_by("few_enough", lambda parts: len(
+        settings.junctions_in(parts.entries)) <= most(parts.version))
 
 
 def settings_faults(change, names=SETTINGS_FAULTS):
@@ -4215,6 +4419,93 @@ def put_into_nothing(file, *rest):
     return RIGHT_JUNCTIONS["put"](file or settings.EMPTY_FILE, *rest)
 
 
+WRONG_VERSIONS = {
+    "version 2 not taken": {"settings.VERSIONS": (settings.VERSION_1,)},
+    "version 1 not taken": {"settings.VERSIONS": (settings.VERSION_2,)},
+    "version 1 in the widths of version 2": versions_taken(lambda byte: byte == 1,
+                                                           settings.VERSION_2),
+    "version 0 taken for 2": versions_taken(lambda byte: byte in (0, 2), settings.VERSION_2),
+    "version 3 taken for 2": versions_taken(lambda byte: byte in (2, 3), settings.VERSION_2),
+    "versions from 2 on taken for 2": versions_taken(lambda byte: byte >= 2, settings.VERSION_2),
+    "version 2 by its second bit": versions_taken(lambda byte: byte & 2, settings.VERSION_2),
+    "version by 7 bits": versions_taken(lambda byte: byte % 128 == 2, settings.VERSION_2),
+    "file of four bytes of version 2 taken": short_taken(4, 2),
+    "file of six bytes of version 2 taken": short_taken(6, 2),
+    "file of version 2 without entries refused": rule_by("counted", lambda parts: (
+        parts.version.byte == 1 or 0 < parts.count) and parts.count == len(parts.entries)),
+    "starts of version 2 in two bytes": version_2_by(start_width=2),
+    "starts of version 2 in three bytes": version_2_by(start_width=3),
+    "starts of version 2 in eight bytes": version_2_by(start_width=8),
+    "starts of version 1 in four bytes": version_by(start_width=4),
+    "count of version 2 in one byte": version_2_by(count_width=1),
+    "count of version 2 in four bytes": version_2_by(count_width=4),
+    "count of version 1 in two bytes": version_by(count_width=2),
+    "starts by 16 bits": starts_by(lambda told, right: told % 2**16 == right % 2**16),
+    "starts by 24 bits": starts_by(lambda told, right: told % 2**24 == right % 2**24),
+    "starts by 31 bits": starts_by(lambda told, right: told % 2**31 == right % 2**31),
+    "trailer's start by 16 bits": rule_by("starts_told", lambda parts: settings.starts_told(
+        parts._replace(last=parts.last % 2**16 if parts.last % 2**16 == ([0] + [
+            entry.place for entry in parts.entries])[-1] else parts.last))),
+    "places of 16 bits": entries_with(lambda entry: entry._replace(place=entry.place % 2**16)),
+    "starts refused from 65,536 on": starts_by(
+        lambda told, right: told == right and told < 2**16),
+    "count by its low byte": rule_by("counted", lambda parts: (
+        parts.count - len(parts.entries)) % 256 == 0),
+    "count by 15 bits": rule_by("counted", lambda parts: parts.count % 2**15 == len(parts.entries)),
+    "entries counted in a byte": rule_by("counted", lambda parts: parts.count == len(
+        parts.entries) % 256),
+    "starts cut to two bytes where written": starts_written(
+        lambda n, places: places[max(n - 1, 0)] % 2**16),
+    "trailer's start cut to two bytes where written": pieces_written(lambda pieces, places: dict(
+        last=places[-2] % 2**16 if pieces else 0)),
+    "count cut to a byte where written": pieces_written(lambda pieces, places: dict(
+        count=len(pieces) % 256)),
+    "41 in version 1 let in": few_by(lambda version: 41 if version.byte == 1 else 400),
+    "400 in version 1 let in": few_by(lambda version: 400),
+    "40 in version 2 at most": few_by(lambda version: 40),
+    "255 in version 2 at most": few_by(lambda version: min(version.most_junctions, 255)),
+    "399 in version 2 at most": few_by(lambda version: min(version.most_junctions, 399)),
+    "401 in a file let in": few_by(lambda version: 40 if version.byte == 1 else 401),
+    "401 let in": version_2_by(most_junctions=401),
+    "399 at most": version_2_by(most_junctions=399),
+    "40 at most in version 2": version_2_by(most_junctions=40),
+    "400 entries at most": rule_by("few_enough", lambda parts: settings.few_enough(parts)
+                                   and len(parts.entries) <= 400),
+    "41st written in version 1": grown_by(lambda version, count: version),
+    "40th written in version 2": grown_by(lambda version, count: 2 if count >= 40 else version),
+    "42nd turns": grown_by(lambda version, count: 2 if count > 41 else version),
+    "every put in version 2": grown_by(lambda version, count: 2),
+    "every put in version 1": grown_by(lambda version, count: 1),
+    "turned back by a put at 40 or fewer": grown_by(lambda version, count: 2 if count > 40 else 1),
+    "turned back by a put at 39 or fewer": grown_by(
+        lambda version, count: 2 if count > 39 and version == 2 or count > 40 else 1),
+    "turned by settings": {"settings.grown": lambda version, junctions: RIGHT_JUNCTIONS["grown"](
+        version, list(settings.settings_of(junctions)))},
+    "every going back in version 2": back_in(lambda version, count: 2),
+    "every going back in version 1": back_in(lambda version, count: 1),
+    "turned back by a going back at 40 or fewer": back_in(
+        lambda version, count: 2 if count > 40 else 1),
+    "turned back by a going back at 40 alone": back_in(
+        lambda version, count: 1 if count == 40 else version),
+    "turned back by a going back at 41": back_in(lambda version, count: 1 if count == 41
+                                                 else version),
+    "40 turned by a going back": back_in(lambda version, count: 2 if count >= 40 else version),
+    "previous settings dropped by the turn": junctions_written(lambda junctions: [
+        one._replace(previous=None) for one in junctions] if len(junctions) == 41 else junctions),
+    "CPs written anew by the turn": junctions_written(lambda junctions: [
+        one._replace(current=anew(one.current), previous=anew(one.previous)) for one in junctions]
+        if len(junctions) == 41 else junctions),
+    "CPs written anew in version 2": junctions_written(lambda junctions: [
+        one._replace(current=anew(one.current), previous=anew(one.previous))
+        for one in junctions]),
+    "room of version 1 asked for by the turn": room_in(lambda own, new: own),
+    "room of version 2 asked for always": room_in(lambda own, new: settings.VERSION_2),
+    "room of version 1 asked for always": room_in(lambda own, new: settings.VERSION_1),
+    "24 told as 22": settings_faults(lambda held, *given: [
+        Refusal(22) if fault.number == 24 else fault for fault in held]),
+}
+
+
 WRONG_SETTINGS = {
     "starts not looked at": rule_by("starts_told"),
     "trailer's start not looked at": starts_but(lambda count: [count]),
@@ -4270,7 +4561,8 @@ WRONG_SETTINGS = {
     "41 let in": version_by(most_junctions=41),
     "39 at most": version_by(most_junctions=39),
     "any number of junctions read": rule_by("few_enough"),
-    "40 entries at most": rule_by("few_enough", lambda parts: len(parts.entries) <= 40),
+    "40 entries at most": rule_by("few_enough", lambda parts: len(
+        parts.entries) <= parts.version.most_junctions),
     "CPs not judged": {"settings.cp_accepted": lambda octets: len(octets) in settings.CP_BITS},
     "current CPs judged alone": cps_by(lambda entries: [
         entry for entry in entries if entry.kind == settings.CURRENT]),
@@ -4291,7 +4583,7 @@ WRONG_SETTINGS = {
        for number in cases_settings.CP_NUMBERS},
     "version not looked at": versions_taken(lambda byte: True),
     "version 0 taken": versions_taken(lambda byte: byte <= 1),
-    "version 2 taken": versions_taken(lambda byte: byte in (1, 2)),
+    "version 2 in the widths of version 1": versions_taken(lambda byte: byte in (1, 2)),
     "version by its lowest bit": versions_taken(lambda byte: byte & 1),
     "empty file taken": short_taken(0),
     "file of one byte taken": short_taken(1),
@@ -4352,12 +4644,13 @@ WRONG_SETTINGS = {
         [*others, one], key=lambda each: each.number ^ 2**15)),
     "put by low bytes": laid_by(lambda junctions, others, one: sorted(
         [*others, one], key=lambda each: (each.number % 256, each.number))),
-    "count of junctions written": pieces_written(lambda pieces: dict(
+    "count of junctions written": pieces_written(lambda pieces, places: dict(
         count=len({piece.junction for piece in pieces}))),
-    "trailer's start written as 0": pieces_written(lambda pieces: dict(last=0)),
-    "trailer's start written as the end": pieces_written(lambda pieces: dict(
-        last=cases_settings.places_of(pieces)[-1])),
-    "version 2 written": pieces_written(lambda pieces: dict(version=2)),
+    "trailer's start written as 0": pieces_written(lambda pieces, places: dict(last=0)),
+    "trailer's start written as the end": pieces_written(lambda pieces, places: dict(
+        last=places[-1])),
+    "version 2 written": pieces_written(lambda pieces, places: dict(byte=2)),
+    "version 1 written": pieces_written(lambda pieces, places: dict(byte=1)),
     "own starts written": starts_written(lambda n, places: places[n]),
     "starts of the next entries written": starts_written(lambda n, places: places[n + 1]),
     "starts written as 0": starts_written(lambda n, places: 0),
@@ -4387,11 +4680,19 @@ WRONG_SETTINGS = {
     "25 after 11 at a put": moved_in("put_faults", 12, 25),
     "12 forgotten at a put": forgotten_in("put_faults", 12),
     "24 forgotten": forgotten_in("put_faults", 24),
-    "24 for a junction that is there": put_refusing(24, lambda there, junction: len(there) >= 40),
+    "24 for a junction that is there": put_refusing(24, lambda there, junction: len(there) >= 400),
+    "24 for a junction that is there at 40": put_refusing(24, lambda there, junction: len(
+        there) >= (400 if settings.at(there, junction) is None else 40)),
     "24 by entries": put_refusing(24, lambda there, junction: settings.at(
-        there, junction) is None and len(list(settings.settings_of(there))) >= 40),
-    "24 for a 40th": put_refusing(24, lambda there, junction: settings.at(
-        there, junction) is None and len(there) >= 39),
+        there, junction) is None and len(list(settings.settings_of(there))) >= 400),
+    "24 for a 40th": full_by(lambda version: 39 if version.byte == 1 else 400),
+    "24 for a 41st": full_by(lambda version: 40),
+    "24 for a 41st in version 1": full_by(lambda version: version.most_junctions),
+    "24 for a 41st in version 2": full_by(lambda version: 400 if version.byte == 1 else 40),
+    "24 for a 256th": full_by(lambda version: 255),
+    "24 for a 257th": full_by(lambda version: 256),
+    "24 for a 400th": full_by(lambda version: 399),
+    "24 for a 402nd": CUT | full_by(lambda version: 401),
     "23 on a put": put_refusing(23, lambda there, junction: settings.at(there, junction) is None),
     "13 on a put": settings_faults(lambda held, file, junction, record, out: [
         *held, *[Refusal(13)] * (record.drn == 0)], ("put_faults",)),
@@ -4423,6 +4724,7 @@ WRONG_SETTINGS = {
     "buffer of the old file's length asked for": room_by(lambda lent, needed, old:
                                                          lent >= max(needed, old)),
     "buffer for the longest file asked for": room_by(lambda lent, needed, old: lent >= 10244),
+    **WRONG_VERSIONS,
 }
 
 
@@ -4438,9 +4740,10 @@ def wrong_settings():
     """
     both = sorted(stored_pairs("vectors_settings"), key=lambda pair: sum(map(len, pair)))
     found = {}
-    for name, changes in WRONG_SETTINGS.items():
-        with changed(changes):
-            found[name] = (sum if "-v" in sys.argv else any)(failing_settings(both))
+    with changed({"settings.read_cp": lru_cache(maxsize=None)(cp.read_cp)}):
+        for name, changes in WRONG_SETTINGS.items():
+            with changed(changes):
+                found[name] = (sum if "-v" in sys.argv else any)(failing_settings(both))
     if "-v" in sys.argv:
         for name, count in found.items():
             print(f"    {name}: fails {count} of {len(both)}")
@@ -4871,7 +5174,9 @@ def flip_sentences():
 def settings_sentences():
     """What is said of settings files, by examples; a refused change leaves the file alone."""
     files = {"example.cp": cases_cp.plain(EXAMPLE), "none.cp": cases_cp.plain(EMPTY),
-             "two.cp": cases_cp.plain(make(0, 2, 0, [0] * 6, [127])), "empty": b""}
+             "two.cp": cases_cp.plain(make(0, 2, 0, [0] * 6, [127])), "empty": b"",
+             "full": settings.write([settings.Junction(100 * n, cases_cp.plain(EXAMPLE), None)
+                                     for n in range(400)], settings.VERSION_2)}
     told = {
         "d put 7 example.cp": "junction 7: 28 kbit/s put, its first setting",
         "d Put 007 two.cp": "junction 7: 29 1/3 kbit/s put, 28 kbit/s kept as the previous setting",
@@ -4881,6 +5186,10 @@ def settings_sentences():
     }
     same(said(files, "settings d new"), ["v91: d made, with no junction", "v91: ok"], "new")
     same(files["d"], b"\0\0\0\1", "a new file")
+    for word, file in (("1", b"\0\0\0\1"), ("2", b"\0\0\0\0\0\0\2")):
+        same(said(files, f"settings e{word} new {word}"),
+             [f"v91: e{word} made, with no junction", "v91: ok"], "new with a version")
+        same(files[f"e{word}"], file, "a new file of a version")
     for words, sentence in told.items():
         same(said(files, f"settings {words}"), [f"v91: {sentence}", "v91: ok"], words)
         check("d.tmp" not in files, "the temporary file")
@@ -4893,7 +5202,7 @@ def settings_sentences():
     same(said(files, "settings d show 7"), said(files, "cp none.cp"), "show")
     same(said(files, "settings d show 65535 Cp > made"), ["v91: ok"], "show cp")
     same((files["made"], files["d"]), (files["none.cp"], kept), "the CP shown, and the file")
-    return f"{len(told) + len(first) + 3} commands"
+    return f"{len(told) + len(first) + 5} commands"
 
 
 def refused_sentences():
@@ -4919,7 +5228,12 @@ def refused_sentences():
         "x show 65536": ["JUNCTION is a number from 0 to 65535, not 65536"],
         "x show 7 words": ["after JUNCTION there may be the word cp, not words"],
         "x take": ["after FILE settings takes new, list, put, back or show, not take"],
-        "x": [number], "x new 7": [number], "x put 7": [number], "x show 7 cp 7": [number],
+        "x new 7": ["after new there may be the version, 1 or 2, not 7"],
+        "d new 0": ["after new there may be the version, 1 or 2, not 0"],
+        "d new 2": ["d is there already; it is as it was"],
+        "full put 7 two.cp": ["full has 400 junctions, the most there can be, so junction 7 cannot "
+                              "be put (refusal 24)", "full is as it was"],
+        "x": [number], "x new 2 x": [number], "x put 7": [number], "x show 7 cp 7": [number],
     }
 
 
@@ -4927,13 +5241,14 @@ def settings_tables():
     """The table of list by its columns, for files of records at random."""
     draw = Draw(37)
     for n in range(120):
-        count = draw.pick((0, 1, 40, draw.below(40)))
+        count, version = draw.pick((0, 1, 40, draw.below(40))), settings.VERSIONS[n % 2]
+        count += 20 * (version.byte == 2) * draw.below(2)
         numbers = sorted({draw.pick((0, 65535, draw.below(65536))) for _ in range(count)})
         pairs = [(a_record(draw, draw.below(29)), draw.pick((None, a_record(draw, draw.below(29)))))
                  for _ in numbers]
         file = settings.write([
             settings.Junction(number, cases_cp.plain(one), other and cases_cp.plain(other))
-            for number, (one, other) in zip(numbers, pairs)])
+            for number, (one, other) in zip(numbers, pairs)], version)
         head, *lines, summed, done = said({"f": file}, "settings f list")
         same(head, "junction  rate            M0   M1   M2   M3   M4   M5  previous", "head")
         same(done, "v91: ok", "list")
@@ -4968,9 +5283,9 @@ def rate_named(record):
 def settings_runs():
     """Puts and goings back at random: what is shown is the setting last put or gone back to."""
     draw = Draw(38)
-    for _ in range(40):
+    for n in range(40):
         files, held = {}, {}
-        said(files, "settings f new")
+        said(files, f"settings f new {('', '1', '2')[n % 3]}")
         for _ in range(24):
             number = draw.pick((0, 1, 256, 257, 65535))
             one, (now, before) = a_record(draw, draw.below(29)), held.get(number, (None, None))
@@ -4982,6 +5297,7 @@ def settings_runs():
                 held[number] = (one, now) if put else (before, now)
             check_shown(files, held, number)
         same([int(line[:8]) for line in said(files, "settings f list")[1:-2]], sorted(held), "list")
+        same(files["f"][-1], (1, 1, 2)[n % 3], "version")
     return "40 files"
 
 
@@ -5008,7 +5324,7 @@ def stored_run():
     data, lines = stored_data(), stored_text("v91/stdout").splitlines()
     script = data[trial.NAME].decode("ascii")
     check(len(script) <= 32_000, "length of the script")
-    check(sum(map(len, data.values())) < 90_000, "data files")
+    check(sum(map(len, data.values())) < 130_000, "data files")
     check(stored_text("v91/stdout").replace("\t", "").replace("\n", "").replace("\x7f", "")
           .isprintable(), "the transcript is no text")
     found = verdicts(script, lines)
@@ -6425,21 +6741,31 @@ def show_by(found):
     return settings_by(show=command)
 
 
-def new_over(call, file):
+def new_over(call, file, *words):
     """A file that is there is made anew."""
-    program.save(call.files, file, settings.EMPTY_FILE)
-    call.say(f"{file} made, with no junction")
+    call.files.pop(file, None)
+    FORMS["new"](call, file, *words)
 
 
-def new_over_empty(call, file):
+def new_over_empty(call, file, *words):
     """An empty file that is there is made anew."""
-    (new_over if call.files.get(file) == b"" else FORMS["new"])(call, file)
+    (new_over if call.files.get(file) == b"" else FORMS["new"])(call, file, *words)
 
 
-def new_of_nothing(call, file):
+def new_of_nothing(call, file, *words):
     """A new file has no byte."""
-    FORMS["new"](call, file)
+    FORMS["new"](call, file, *words)
     call.files[file] = b""
+
+
+def new_named(change):
+    """The changes that take another word after new, made from the right ones."""
+    return settings_by(new=lambda call, file, *words: FORMS["new"](call, file, *change(words)))
+
+
+def new_looking_first(call, file, *words):
+    """A file that is there is told before a word after new."""
+    FORMS["new"](call, file, *(words if file not in call.files else []))
 
 
 def temporary_left(files, name, octets):
@@ -6540,11 +6866,13 @@ def junctions_at_most(most):
     return {"settings.put": put}
 
 
-def full_for_all(file, junction, record, out):
-    """A put to a junction that is there is refused too where there are 40."""
-    if len(settings.read(file) or []) == 40:
-        return Refusal(24), 0, out
-    return RIGHT_FILES["put"](file, junction, record, out)
+def full_for_all(most):
+    """A put to a junction that is there is refused too where there are so many."""
+    def put(file, junction, record, out):
+        if len(settings.read(file) or []) == most:
+            return Refusal(24), 0, out
+        return RIGHT_FILES["put"](file, junction, record, out)
+    return put
 
 
 def forms_in_small_letters(call, file, form, *words):
@@ -6576,6 +6904,9 @@ WRONG_SETTINGS_PROGRAMS = {
         each for row in rows for each in (row, row._replace(current=row.previous, previous=None))
         if each.current]),
     "settings: 39 rows": rows_by(lambda rows: rows[:39]),
+    "settings: 40 rows": rows_by(lambda rows: rows[:40]),
+    "settings: 256 rows": rows_by(lambda rows: rows[:256]),
+    "settings: 399 rows": rows_by(lambda rows: rows[:399]),
     "settings: no head": settings_by(list=list_without_head),
     "settings: another head": {"program.TABLE_HEAD": program.TABLE_HEAD.replace("rate ", "kbit/s")},
     "settings: a row filled with spaces": rows_like(lambda line, row: f"{line:68}"),
@@ -6618,10 +6949,13 @@ WRONG_SETTINGS_PROGRAMS = {
     "settings: 23 of show told by back of a junction not there": settings_failing(
         lambda told, file: [one.replace("no previous setting for junction 8",
                                         "no setting for junction 8") for one in told], "back"),
-    "settings: 41 told": settings_saying("settings_refusal", lambda told, *rest: told.replace(
-        "has 40", "has 41")),
+    "settings: 401 told": settings_saying("settings_refusal", lambda told, *rest: told.replace(
+        "has 400", "has 401")),
+    "settings: 40 told": settings_saying("settings_refusal", lambda told, *rest: told.replace(
+        "has 400", "has 40")),
     "settings: settings told for junctions": settings_saying(
-        "settings_refusal", lambda told, *rest: told.replace("has 40", "has 80")),
+        "settings_refusal", lambda told, name, octets, number, *rest: told if number != 24 else
+        told.replace("has 400", f"has {len(settings.parts_of(octets).entries)}")),
     "settings: 24 without the junction": settings_saying(
         "settings_refusal", lambda told, *rest: re.sub(", so junction .* put", "", told)),
     "settings: 22 told of a CP": settings_saying("settings_refusal", lambda told, *rest: (
@@ -6701,11 +7035,30 @@ WRONG_SETTINGS_PROGRAMS = {
         file or settings.EMPTY_FILE)},
     "settings: no file with no junction": {"settings.read": lambda file: RIGHT_FILES["read"](
         file if file != settings.EMPTY_FILE else b"")},
-    "settings: a 41st junction put": {"settings.VERSION_1": settings.VERSION_1._replace(
-        most_junctions=41), "settings.VERSIONS": (settings.VERSION_1._replace(
-            most_junctions=41),)},
+    "settings: 41 junctions in version 1": version_by(most_junctions=41),
+    "settings: a 41st junction put in version 1": grown_by(lambda version, count: version),
+    "settings: every put in version 2": grown_by(lambda version, count: 2),
+    "settings: a put turns version 2 back": grown_by(lambda version, count: 2 if count > 40 else 1),
+    "settings: a going back turns version 2 back": back_in(
+        lambda version, count: 2 if count > 40 else 1),
+    "settings: a going back turns 41 junctions back": back_in(
+        lambda version, count: 1 if 41 <= count <= 42 else version),
+    "settings: a turn drops previous settings": junctions_written(lambda junctions: [
+        one._replace(previous=None) for one in junctions] if len(junctions) == 41 else junctions),
+    "settings: version 2 not taken": {"settings.VERSIONS": (settings.VERSION_1,)},
+    "settings: version 3 taken": versions_taken(lambda byte: byte == 3, settings.VERSION_2),
+    "settings: starts by 24 bits": starts_by(lambda told, right: told % 2**24 == right % 2**24),
+    "settings: starts by 16 bits": starts_by(lambda told, right: (told - right) % 2**16 == 0),
+    "settings: count by its low byte": rule_by("counted", lambda parts: (
+        parts.count - len(parts.entries)) % 256 == 0),
+    "settings: 16,384 bytes read": {"program.MOST_OF_SETTINGS": 16_384},
     "settings: no 40th junction put": junctions_at_most(39),
-    "settings: 40 junctions and none changed": {"settings.put": full_for_all},
+    "settings: no 41st junction put": junctions_at_most(40),
+    "settings: no 400th junction put": junctions_at_most(399),
+    "settings: a 401st junction put": version_2_by(most_junctions=401),
+    "settings: 401 junctions read": few_by(lambda version: 40 if version.byte == 1 else 401),
+    "settings: 40 junctions and none changed": {"settings.put": full_for_all(40)},
+    "settings: 400 junctions and none changed": {"settings.put": full_for_all(400)},
     "settings: a put makes the file": settings_by(put=put_making),
     "settings: a file that is not there has no junction": {
         "program.octets_in": lambda files, name, wanted: RIGHT_SETTINGS["octets_in"](
@@ -6728,7 +7081,22 @@ WRONG_SETTINGS_PROGRAMS = {
         "show"](call, file, word, *(["cp"] if form else []))),
     "settings: in small letters alone": {"program.COMMANDS": commands_with(
         settings=forms_in_small_letters)},
-    "settings: new with two words": settings_taking("new", 0, 1),
+    "settings: new without a version": settings_taking("new", 0, 0),
+    "settings: new with three words": settings_taking("new", 0, 2),
+    "settings: new of version 1 always": new_named(lambda words: []),
+    "settings: new of version 2 always": new_named(lambda words: ["2"]),
+    "settings: new of version 2 for 1": new_named(lambda words: ["2" for _ in words]),
+    "settings: new of version 1 for another word": new_named(
+        lambda words: [word for word in words if word == "2"]),
+    "settings: new of version 2 for another number": new_named(
+        lambda words: [word if not word.isdigit() or word == "1" else "2" for word in words]),
+    "settings: new of a version with zeros before it": new_named(
+        lambda words: [word.lstrip("0") or word for word in words]),
+    "settings: new looks at FILE first": settings_by(new=new_looking_first),
+    "settings: new tells its version": settings_by(new=lambda call, file, *words: (
+        FORMS["new"](call, file, *words), call.say("version 2") if words == ("2",) else None)),
+    "settings: new tells another word as wrong words": settings_failing(lambda told, file: [
+        program.WRONG_NUMBER if "after new" in one else one for one in told], "new"),
     "settings: list with two words": settings_taking("list", 0, 1),
     "settings: list with three words": settings_taking("list", 0, 2),
     "settings: back with two words": settings_taking("back", 1, 2),
@@ -6736,7 +7104,7 @@ WRONG_SETTINGS_PROGRAMS = {
         "settings": (program.with_settings, 2, 5)}},
     "settings: not there": {"program.COMMANDS": {
         name: command for name, command in program.COMMANDS.items() if name != "settings"}},
-    "version 6": {"program.VERSION": "v91 6"},
+    "version 7": {"program.VERSION": "v91 7"},
     **{f"settings: {rule.__name__} not looked at": without_rule(rule)
        for rule in settings.RULES if rule != settings.previous_after_current},
 }
@@ -6789,7 +7157,8 @@ GROUPS = (table_1, examples, values, steps, cp_round_trips, demand_3, distrust, 
           other_dils, default_dil, wrong_codecs, plan_sizes, plan_least, plan_answers, plan_ranges,
           plan_largest, stored_plans, wrong_planners, flip_costs, flip_runs, flip_needs,
           stored_flips, wrong_flips, settings_values, settings_round_trips, settings_rules,
-          settings_operations, settings_refusals, stored_settings, wrong_settings,
+          settings_operations, settings_turns, settings_most, settings_refusals, stored_settings,
+          wrong_settings,
           program_round_trips, program_doubts, program_sequences,
           program_starts, program_sentences, start_sentences, plan_sentences, flip_sentences,
           settings_sentences, settings_tables, settings_runs,

@@ -7,7 +7,7 @@ from frames import FRESH, data_bytes, interval_masks, ucodes_for
 from program import frame_count, octets_for, reception
 from record import EMPTY, EXAMPLE, FULL_MASK, make
 from samples import Draw, a_record
-from settings import Junction, write
+from settings import VERSION_1, VERSION_2, Junction, write
 from start import FOUND_FROM, from_zero
 from table1 import A, MU, octet_of
 
@@ -246,16 +246,18 @@ def lines_with_start():
 
 # Settings files
 
-# Two junctions with three settings, whose entries begin at 0, 43 and 86; the trailer is at 129.
-PAIR = write([Junction(7, plain(EXAMPLE), plain(THIRD)), Junction(512, plain(EMPTY), None)])
+# Two junctions with three settings, whose entries begin at 0, 43 and 86; the trailer is at 129. In
+# version 2 they begin at 0, 45 and 90, and the trailer is at 135.
+TWO_JUNCTIONS = [Junction(7, plain(EXAMPLE), plain(THIRD)), Junction(512, plain(EMPTY), None)]
+PAIR, PAIR_2 = (write(TWO_JUNCTIONS, version) for version in (VERSION_1, VERSION_2))
 
-# The most junctions there can be.
-MOST = 40
+# The most junctions there can be in each version.
+MOST, MOST_2 = 40, 400
 
 
-def examples_for(count):
+def examples_for(count, step=1001, version=VERSION_1):
     """A file of so many junctions, each with the example as its one setting."""
-    return write([Junction(1001 * n, plain(EXAMPLE), None) for n in range(1, count + 1)])
+    return write([Junction(step * n, plain(EXAMPLE), None) for n in range(1, count + 1)], version)
 
 
 def kept():
@@ -268,7 +270,7 @@ def kept():
 
 
 def forty():
-    """The longest file there can be, with a current setting of each rate; a previous one of some.
+    """The longest file of version 1, with a current setting of each rate; a previous one of some.
 
     It has 80 settings whose CPs are of the largest length.
     """
@@ -278,9 +280,17 @@ def forty():
                   for n in range(1, MOST + 1)])
 
 
+def nearly_2():
+    """A file of version 2 with room for one junction more, with settings of each rate."""
+    draw = Draw(37)
+    return write([Junction(150 * n, plain(a_record(draw, n % 29, 0)), None)
+                  for n in range(1, MOST_2)], VERSION_2)
+
+
 def good_settings():
     """Settings files that are read."""
-    return {"kept.set": kept(), "nearly.set": examples_for(MOST - 1), "forty.set": forty()}
+    return {"kept.set": kept(), "nearly.set": examples_for(MOST - 1), "forty.set": forty(),
+            "nearly2.set": nearly_2()}
 
 
 def broken_entries():
@@ -315,11 +325,28 @@ def broken_settings():
     }
 
 
+def broken_settings_2():
+    """Settings files that are refused for the widths of version 2 or for its bounds."""
+    return {
+        "tail2.set": b"\0\0\0\2",
+        "narrow2.set": PAIR_2[:135] + PAIR_2[135:136] + PAIR_2[137:],
+        "cut2.set": PAIR_2[:43] + PAIR_2[45:],
+        "high2.set": altered(PAIR_2, 134, 1),
+        "count2.set": altered(PAIR_2, 136, 1),
+        "last2.set": altered(PAIR_2, 139, 1),
+        "gap2.set": PAIR_2[:135] + b"\0" + PAIR_2[135:],
+        "crc2.set": altered(PAIR_2, 69, PAIR_2[69] ^ 1),
+        "version1.set": altered(PAIR_2, 141, 1),
+        "version3.set": altered(PAIR_2, 141, 3),
+        "many2.set": examples_for(MOST_2 + 1, 150, VERSION_2),
+    }
+
+
 def data_files():
     """The files that the script reads: {name: bytes}."""
     return {**good_cps(), **refused_cps(), **messages(), "joined": joined(),
             "channel": channel_data(), **lines_of_octets(), **lines_with_start(),
-            **good_settings(), **broken_settings()}
+            **good_settings(), **broken_settings(), **broken_settings_2()}
 
 
 # The script
@@ -918,9 +945,8 @@ settings own.set list
 linear a < own.set
 settings kept.set list
 
-# 40 junctions, the most there can be
+# 40 junctions, the most of version 1; a 41st makes it version 2
 settings forty.set list
-settings forty.set put 9 example.cp
 settings forty.set put 65535 crc.cp
 settings forty.set back 9
 settings forty.set list
@@ -1104,4 +1130,105 @@ settings depot.set show 0000000000000000007
 settings depot.set show 999999999999999999
 settings depot.set list
 setting depot.set list
+
+# A file of version 2 made anew
+settings shire.set new 2
+linear a < shire.set
+settings shire.set list
+settings shire.set show 7
+settings shire.set back 7
+settings shire.set put 512 example.cp
+settings shire.set put 7 gaps.cp
+settings shire.set put 512 third.cp
+settings shire.set list
+settings shire.set back 512
+settings shire.set back 7
+settings shire.set show 512
+settings shire.set show 7 cp > made.cp
+cp made.cp
+linear a < shire.set
+
+# One of version 1 by its number, other words there, and one too many
+settings ward.set NEW 1
+linear a < ward.set
+settings ward.set put 7 example.cp
+settings ward.set new 1
+settings ward.set new 2
+settings ward.set new 3
+linear a < ward.set
+settings parish.set new 0
+settings parish.set new 3
+settings parish.set new 7
+settings parish.set new 02
+settings parish.set new 12
+settings parish.set new -2
+settings parish.set new two
+settings parish.set new t\two
+settings parish.set new new
+settings parish.set new 2 x
+settings parish.set new 1 2
+settings parish.set new 2 2 2
+settings parish.set 2
+settings parish.set list
+settings nowhere/parish.set new 2
+settings nowhere/parish.set new 4
+settings new 2
+
+# What the 41st junction has made of files of version 1, shown and changed
+linear a < borough.set
+settings borough.set show 1001
+settings borough.set show 39039
+settings borough.set back 39039
+settings borough.set show 39039
+settings borough.set put 38038 cleardown.cp
+settings borough.set back 38038
+settings borough.set put 9 full.cp
+settings borough.set show 65535
+send full.cp mu < borough.set > octets
+settings county.set show 1002
+settings county.set show 20020
+settings county.set back 20020
+settings county.set show 20020
+send full.cp mu < county.set > octets
+
+# 400 junctions, the most there can be
+send full.cp a < nearly2.set > octets
+receive full.cp a 17962 < octets > nation.set
+settings nation.set put 65535 third.cp
+settings nation.set put 0 example.cp
+settings nation.set put 0 crc.cp
+settings nation.set back 0
+settings nation.set show 0
+settings nation.set put 150 full.cp
+settings nation.set put 30001 third.cp
+settings nation.set put 59850 third.cp
+settings nation.set back 59850
+settings nation.set back 300
+settings nation.set show 150
+settings nation.set show 59850
+settings nation.set list
+send full.cp mu < nation.set > octets
+
+# Files of version 2 that break the rules: they are as they were
+settings tail2.set list
+settings tail2.set put 7 example.cp
+linear a < tail2.set
+settings narrow2.set list
+settings cut2.set list
+settings high2.set list
+settings count2.set list
+settings last2.set list
+settings gap2.set show 7
+settings crc2.set show 512
+settings crc2.set put 7 example.cp
+settings crc2.set back 7
+settings version1.set list
+settings version3.set list
+settings many2.set list
+settings many2.set show 150
+settings many2.set put 150 third.cp
+settings many2.set put 9 third.cp
+linear a < text > longer
+settings longer list
+settings longer put 7 example.cp
 """

@@ -687,7 +687,7 @@ static const struct version {
     uint8_t number;
     int start_bytes, count_bytes;
     unsigned junctions;
-} version_1 = { 1, 2, 1, 40 };
+} version_1 = { 1, 2, 1, 40 }, version_2 = { 2, 4, 2, 400 };
 
 /* What a walk over a file finds: where its trailer begins and what is counted; and of one junction where its entries
    begin, or would, the start of the entry before that, and the bytes of its current and previous ones, 0 for none. */
@@ -707,6 +707,14 @@ static size_t entry_bytes(const struct version *v, unsigned bytes_of_cp)
     return HEAD_BYTES + bytes_of_cp + (size_t)v->start_bytes;
 }
 
+/* The version that the last byte names; null where it names none, or the file is shorter than the trailer. */
+static const struct version *version_of(const uint8_t *file, size_t file_len)
+{
+    uint8_t number = file_len > 0 ? file[file_len - 1] : 0;
+    const struct version *v = number == version_1.number ? &version_1 : number == version_2.number ? &version_2 : NULL;
+    return v && file_len >= trailer_bytes(v) ? v : NULL;
+}
+
 /* The length in bits of a CP of so many bytes; 0 where none has so many. */
 static unsigned bits_in(unsigned bytes)
 {
@@ -720,13 +728,13 @@ static unsigned bits_in(unsigned bytes)
    the kind make one rank, which rises; that of a previous setting comes next to its current one's. */
 static bool walk(struct walk *w, const uint8_t *file, size_t file_len, unsigned junction)
 {
-    const struct version *v = &version_1;
+    const struct version *v = version_of(file, file_len);
     struct record r;
     size_t at = 0, last = 0, size;
     long latest = -1;
 
     *w = (struct walk){ .version = v };
-    if (file_len < trailer_bytes(v) || file[file_len - 1] != v->number)
+    if (!v)
         return false;
     w->end = file_len - trailer_bytes(v);
     for (; at < w->end; last = at, at += size) {
@@ -755,7 +763,7 @@ static bool walk(struct walk *w, const uint8_t *file, size_t file_len, unsigned 
            && get_number(file + w->end + v->count_bytes, v->start_bytes) == last;
 }
 
-/* A file that is written: the place of the next entry and the start of the last one. */
+/* A file that is written, of its own version: the place of the next entry and the start of the last one. */
 struct writer {
     const struct version *version;
     uint8_t *out;
@@ -779,19 +787,32 @@ static void copy_entry(struct writer *to, const uint8_t *entry, uint8_t kind)
     end_entry(to);
 }
 
-/* Begins with what stands below the junction. */
-static struct writer copy_below(const struct walk *w, const uint8_t *file, uint8_t *out)
+/* Copies the entries between two places of the file. */
+static void copy_entries(struct writer *to, const struct walk *w, const uint8_t *file, size_t at, size_t end)
 {
-    memcpy(out, file, w->first);
-    return (struct writer){ w->version, out, w->first, w->before };
+    for (; at < end; at += entry_bytes(w->version, file[at + 3]))
+        copy_entry(to, file + at, file[at + 2]);
+}
+
+/* Begins with what stands below the junction; in the file's own version its bytes stay as they are. */
+static struct writer copy_below(const struct version *v, const struct walk *w, const uint8_t *file, uint8_t *out)
+{
+    struct writer to = { v, out, 0, 0 };
+
+    if (v == w->version) {
+        memcpy(out, file, w->first);
+        to.at = w->first;
+        to.last = w->before;
+    } else
+        copy_entries(&to, w, file, 0, w->first);
+    return to;
 }
 
 /* Goes on with what stands above the junction, and ends with the trailer; the file's length. */
 static uint32_t copy_above(struct writer *to, const struct walk *w, const uint8_t *file, unsigned entries)
 {
-    const struct version *v = w->version;
-    for (size_t at = w->first + w->own[CURRENT] + w->own[PREVIOUS]; at < w->end; at += entry_bytes(v, file[at + 3]))
-        copy_entry(to, file + at, file[at + 2]);
+    const struct version *v = to->version;
+    copy_entries(to, w, file, w->first + w->own[CURRENT] + w->own[PREVIOUS], w->end);
     uint8_t *trailer = to->out + to->at;
     put_number(trailer, v->count_bytes, entries);
     put_number(trailer + v->count_bytes, v->start_bytes, to->last);
@@ -813,14 +834,16 @@ uint32_t plain_put(const uint8_t *file, size_t file_len, uint16_t junction, cons
         return refusal;
     if (!walk(&w, file, file_len, junction))
         return 22;
-    if (w.own[CURRENT] == 0 && w.junctions == w.version->junctions)
+    unsigned junctions = w.junctions + (w.own[CURRENT] == 0), g = largest_index(&r);
+    if (junctions > version_2.junctions)
         return 24;
-    unsigned g = largest_index(&r);
-    if (out_len < file_len - w.own[PREVIOUS] + entry_bytes(w.version, cp_bytes(g)))
+    const struct version *v = junctions > w.version->junctions ? &version_2 : w.version;
+    size_t wider = (size_t)(v->start_bytes - w.version->start_bytes);
+    if (out_len < w.end - w.own[PREVIOUS] + w.entries * wider + entry_bytes(v, cp_bytes(g)) + trailer_bytes(v))
         return 17;
 
-    struct writer to = copy_below(&w, file, out);
-    uint8_t *entry = out + w.first;
+    struct writer to = copy_below(v, &w, file, out);
+    uint8_t *entry = out + to.at;
     put_number(entry, 2, junction);
     entry[2] = CURRENT;
     entry[3] = (uint8_t)cp_bytes(g);
@@ -841,7 +864,7 @@ uint32_t plain_go_back(const uint8_t *file, size_t file_len, uint16_t junction, 
         return 23;
     if (out_len < file_len)
         return 17;
-    struct writer to = copy_below(&w, file, out);
+    struct writer to = copy_below(w.version, &w, file, out);
     copy_entry(&to, file + w.first + w.own[CURRENT], CURRENT);
     copy_entry(&to, file + w.first, PREVIOUS);
     return copy_above(&to, &w, file, w.entries);

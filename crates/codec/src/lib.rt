@@ -1,4 +1,6 @@
 // The frame sender and the frame receiver.
+use frames_received::receive_frames;
+use frames_sent::send_frames;
 use standard::FramesDone;
 use standard::FramesRead;
 use standard::Law;
@@ -63,7 +65,7 @@ pub fn send(
     if let Outcome::Refused(_) = fault {
         return refused(fault, state); // no octet is written
     }
-    let left = frames::send_frames(r, law, frames, control, word, state, bytes, octets);
+    let left = send_frames(r, law, frames, control, word, state, bytes, octets);
     FramesDone {
         outcome: Outcome::Done,
         state: left,
@@ -120,7 +122,7 @@ pub fn receive(
     if let Outcome::Refused(_) = fault {
         return unread(fault, state); // no byte and no mark is written
     }
-    let heard = frames::receive_frames(r, law, frames, control, state, octets, bytes, marks);
+    let heard = receive_frames(r, law, frames, control, state, octets, bytes, marks);
     let left = heard.state;
     let said = heard.said;
     FramesRead {

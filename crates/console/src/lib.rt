@@ -8,7 +8,7 @@ ghost use mathlib.Core.Bool.{true, false, _&&_};
 ghost use Prim.Native.Nat.{_+_, _%_, _^_, _≤_};
 ghost use lib.Dec.{leb};
 ghost use lib.ListN.{length};
-ghost use Rattle.words.specs.Parts.{partCount};
+ghost use Rattle.parts.specs.Parts.{partCount};
 ghost use Rattle.console.specs.Trouble.{isWell, isOver};
 
 // Puts argument i into the text from place `at` on, and a 0 behind it, and returns the place after it; the text's end where there is no
@@ -123,7 +123,7 @@ pub fn fail_name(e: Ends, template: &[u8], name: &[u8]) -> bool
 pub fn fail_choice(e: Ends, templates: &[u8], k: usize, values: &[u64], name: &[u8]) -> bool
     ensures { λ x. ⌜ x ≡ false ⌝ }
 {
-    say(e, words::nth_part(templates, b'|', k), values, name);
+    say(e, parts::nth_part(templates, b'|', k), values, name);
     false
 }
 
@@ -131,7 +131,7 @@ pub fn fail_choice(e: Ends, templates: &[u8], k: usize, values: &[u64], name: &[
 pub fn has(e: Ends, words: &[u8], least: usize, most: usize) -> bool
     ensures { λ x. ⌜ x ≡ (leb least (partCount 0 (now (words .entry))) && leb (partCount 0 (now (words .entry))) most) ⌝ }
 {
-    let count = words::part_count(words, 0);
+    let count = parts::part_count(words, 0);
     let right = (least <= count) & (count <= most);
     if right {
         return true;

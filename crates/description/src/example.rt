@@ -147,7 +147,7 @@ fn add_good(
         bytes,
         marks,
     );
-    let wrong = streams::differing(sent, bytes, 0, 63) as u64;
+    let wrong = unaligned::differing(sent, bytes, 0, 63) as u64;
     add_choice(
         text,
         at,
@@ -165,7 +165,7 @@ fn add_doubt(text: &mut [u8], at: usize, sent: &[u8], bytes: &[u8], mark: u8) ->
     ensures { λ end. ⌜ end ≤ length (now (text .entry)) ⌝ }
 {
     let interval = wrapping_sub_u64(mark as u64, 1);
-    let doubtful = streams::differing(sent, bytes, 21, 24) as u64;
+    let doubtful = unaligned::differing(sent, bytes, 21, 24) as u64;
     let at = add_numbers(
         text,
         at,
@@ -176,7 +176,7 @@ bits 21 to 44, the 24 after it, are doubtful: # of them are not as sent
         doubtful,
         0,
     );
-    let wrong = streams::differing(sent, bytes, 45, 18) as u64;
+    let wrong = unaligned::differing(sent, bytes, 45, 18) as u64;
     add_choice(
         text,
         at,

@@ -18,8 +18,8 @@ use Rattle.standard.specs.Cp.{startBitSet}
 use Rattle.standard.specs.Refusals.{countExceedsBytes, countTooSmall, syncBroken, indexTooLarge, lengthWrong, fixedBitWrong, drnTooLarge}
 use Rattle.standard.specs.Refusals.{grantedBelowFullRate, intervalEmpty, productTooSmall, maskAboveIndices, emptyTest, emptyTests, rateTests}
 use Rattle.standard.specs.Refusals.{recordTests, readTests}
-use Rattle.standard.specs.Settings.{versionIn, little, entryBytes, entriesBytes, lastStart, fileOf, littleAt, entryAt, nextAt, entriesAt}
-use Rattle.standard.specs.Settings.{entriesIn, settingsIn, find, entry, below, above, replace, put, back, putFile, backFile, same, asWritten}
+use Rattle.standard.specs.Settings.{versionIn, versionFor, little, entryBytes, entriesBytes, lastStart, fileOf, littleAt, entryAt, nextAt}
+use Rattle.standard.specs.Settings.{entriesAt, entriesIn, settingsIn, find, entry, below, above, replace, put, back, putFile, backFile, same, asWritten}
 use Rattle.standard.specs.Settings.{follows, inOrder, orderly, junctions, few, bitCountOf, readable, allReadable, lawful, isFile, putTests}
 use Rattle.standard.specs.Settings.{backTests}
 use Rattle.standard.specs.Calls.{putCall, putRefusal, putLength, putOut, backCall, backRefusal, backLength, backOut}
@@ -55,8 +55,8 @@ pub file-is : fileLeft begun calls ≡ file
 unfolding listFrom any largest after first bitAt field bytesOf topIndex inMask noRecord sizeOf member sizes product crcStep crcOver cpCrc bitIn
     headFields maskFields cpBody crcField cpBit cpBytes maskBitIn halfIn recordIn crcMatches startBitSet countExceedsBytes countTooSmall
     syncBroken indexTooLarge lengthWrong fixedBitWrong drnTooLarge grantedBelowFullRate intervalEmpty productTooSmall maskAboveIndices
-    emptyTest emptyTests rateTests recordTests readTests versionIn little entryBytes entriesBytes lastStart fileOf littleAt entryAt nextAt
-    entriesAt entriesIn settingsIn find entry below above replace put back putFile backFile same asWritten follows inOrder orderly junctions
+    emptyTest emptyTests rateTests recordTests readTests versionIn versionFor little entryBytes entriesBytes lastStart fileOf littleAt entryAt
+    nextAt entriesAt entriesIn settingsIn find entry below above replace put back putFile backFile same asWritten follows inOrder orderly junctions
     few bitCountOf readable allReadable lawful isFile putTests backTests putRefusal putLength putOut backRefusal backLength backOut
     overCalls answerTo lengthBy outBy fileAfter
 file-is = refl
@@ -69,8 +69,8 @@ named : naming 7 begun calls ≡ earlier ++ (toGoBack (backCall 7 (replicate 100
 unfolding listFrom any largest after first bitAt field bytesOf topIndex inMask noRecord sizeOf member sizes product crcStep crcOver cpCrc bitIn
     headFields maskFields cpBody crcField cpBit cpBytes maskBitIn halfIn recordIn crcMatches startBitSet countExceedsBytes countTooSmall
     syncBroken indexTooLarge lengthWrong fixedBitWrong drnTooLarge grantedBelowFullRate intervalEmpty productTooSmall maskAboveIndices
-    emptyTest emptyTests rateTests recordTests readTests versionIn little entryBytes entriesBytes lastStart fileOf littleAt entryAt nextAt
-    entriesAt entriesIn settingsIn find entry below above replace put back putFile backFile same asWritten follows inOrder orderly junctions
+    emptyTest emptyTests rateTests recordTests readTests versionIn versionFor little entryBytes entriesBytes lastStart fileOf littleAt entryAt
+    nextAt entriesAt entriesIn settingsIn find entry below above replace put back putFile backFile same asWritten follows inOrder orderly junctions
     few bitCountOf readable allReadable lawful isFile putTests backTests putRefusal putLength putOut backRefusal backLength backOut
     overCalls answerTo lengthBy outBy fileAfter naming
 named = refl

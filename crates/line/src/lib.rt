@@ -37,6 +37,6 @@ pub(crate) fn keep(bytes: &mut [u8], start: usize, end: usize)
     requires { ⌜ (start ≤ end) × (end ≤ 6144) × (length (now bytes) ≡ 6144) ⌝ }
 {
     let mut rest = [0u8; 8];
-    streams::copy_bits(&bytes[0..end], 8 * start, &mut rest);
-    streams::copy_bits(&rest, 0, &mut bytes[0..8]);
+    unaligned::copy_bits(&bytes[0..end], 8 * start, &mut rest);
+    unaligned::copy_bits(&rest, 0, &mut bytes[0..8]);
 }

@@ -15,6 +15,7 @@ use console::read_some;
 use console::tell;
 use console::tell_text;
 use frame::doubtful_after;
+use marks::Report;
 use standard::FramesRead;
 use standard::Law;
 use standard::LineState;
@@ -22,11 +23,10 @@ use standard::Record;
 use standard::Said;
 use std::num::wrapping_add_u64;
 use std::num::wrapping_sub_u64;
-use streams::Report;
 use streams::bits_in;
 use streams::ending;
-use streams::put_digits;
 use streams::width_at;
+use unaligned::put_digits;
 use words::add_choice;
 use words::add_name;
 ghost use mathlib.Core.Path.{_≡_};
@@ -122,7 +122,7 @@ fn note(e: Ends, before: Told, width: u64, coming: u8, mark: u8) -> Told {
     let t = end_run(e, before, mark, mark == 0);
     let meter = t.meter;
     Told {
-        report: streams::note(t.report, width, coming, mark),
+        report: marks::note(t.report, width, coming, mark),
         told: t.told,
         untold: t.untold,
         meter,
@@ -261,7 +261,7 @@ fn ended(s: Stream, trouble: Trouble) -> Stream
 fn write_bits(e: Ends, bytes: &[u8], at: usize, out: &mut [u8]) -> Trouble
     requires { ⌜ (at ≤ 8) × (length (now out) ≤ 6144) ⌝ }
 {
-    streams::copy_bits(bytes, at, out);
+    unaligned::copy_bits(bytes, at, out);
     if io::write_all(e.output, out) {
         return Trouble::Nothing;
     }
@@ -302,7 +302,7 @@ fn after_frames(
     Stream {
         state,
         waiting: s.waiting,
-        last: streams::byte_at(bytes, bits),
+        last: unaligned::byte_at(bytes, bits),
         held: total % 8,
         told: note_all(e, r, control, s.told, before, said, marks),
         wanted,

@@ -84,7 +84,7 @@ fn send_from(
 ) -> Step
     requires { ⌜ (frames ≤ 1024) × (at < 8) × (length (now shifted) ≤ 6150) ⌝ }
 {
-    streams::copy_bits(bytes, at, shifted);
+    unaligned::copy_bits(bytes, at, shifted);
     let mut octets = [0u8; 6144];
     let done = codec::send(
         r,

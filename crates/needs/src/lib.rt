@@ -3,6 +3,7 @@ use standard::LineState;
 use standard::Outcome;
 use standard::Record;
 use standard::Refusal;
+use state_faults::state_fault;
 ghost use mathlib.Core.Path.{_≡_};
 ghost use mathlib.Core.Bool.{cond};
 ghost use Prim.Native.Nat.{_+_, _/_, _%_, _<_, _≤_};
@@ -10,7 +11,7 @@ ghost use mathlib.Core.List.{_++_};
 ghost use Rattle.standard.specs.First.{first};
 ghost use Rattle.standard.specs.Bits.{bytesFor};
 ghost use Rattle.standard.specs.Frame.{callBits};
-ghost use Rattle.standard.specs.Refusals.{outcomeAnswer, recordTests, stateTests, lineTests, bufferTests};
+ghost use Rattle.standard.specs.Refusals.{outcomeAnswer, recordTests, lineTests, bufferTests};
 ghost use Rattle.needs.specs.Stages.{NeededBy, firstOf};
 
 // How many of so many frames are control frames, from a frame place on.
@@ -31,22 +32,6 @@ fn data_bytes(r: Record, control: bool, place: u8, frames: usize) -> usize
 {
     let fewer = 6 * control_frames(control, place, frames);
     (frames * constellation::d_of(r) - fewer + 7) / 8
-}
-
-// Refusals 14, 18 and 19.
-pub fn state_fault(state: LineState) -> Outcome
-    ensures { λ x. ⌜ outcomeAnswer x ≡ first (stateTests state) ⌝ }
-{
-    if 0x80_0000 <= state.history {
-        return Outcome::Refused(Refusal::HistoryTooLarge);
-    }
-    if 24 < state.doubtful {
-        return Outcome::Refused(Refusal::DoubtfulTooLarge);
-    }
-    if (63 < state.place) | (15 < state.done) {
-        return Outcome::Refused(Refusal::PlaceTooLarge);
-    }
-    Outcome::Done
 }
 
 // Refusals 13, 14, 18, 19 and 15.

@@ -18,8 +18,8 @@ use Rattle.standard.specs.declared.Planned.{Planned}
 use Rattle.standard.specs.declared.Refusal.{Refusal}
 use Rattle.standard.proofs.Stages.{refused-not}
 use Rattle.standard.proofs.Plan.{size-wanted, accepted-mask}
-use Rattle.plan.specs.Choosing.{Before}
-use Rattle.plan.specs.declared.Chosen.{Chosen}
+use Rattle.choosing.specs.Choosing.{Before}
+use Rattle.choosing.specs.declared.Chosen.{Chosen}
 
 module _ (k : ℕ) (l : Law) (d ceiling : ℕ) where
   abbrev call : PlanCall

@@ -11,11 +11,12 @@ use Rattle.standard.specs.declared.Version.{Version}
 use Rattle.standard.specs.Settings.{Entry, little, nextAt, entriesAt, entry, entriesBytes, fileOf, trailer}
 use Rattle.theorems_settings.proofs.Numbers.{length-little}
 use Rattle.theorems_settings.proofs.FileBack.{length-file}
-use Rattle.rewriting.specs.declared.Spot.{Spot}
-use Rattle.rewriting.specs.Rewriting.{laid, Lays, given, ownEntries, rewritten, writtenRefusal}
+use Rattle.laying.specs.declared.Spot.{Spot}
+use Rattle.laying.specs.Laying.{laid, Lays, given}
+use Rattle.rewriting.specs.Rewriting.{ownEntries, rewritten, writtenRefusal}
 use Rattle.entries.specs.Entries.{inside, placeAfter, sizes}
 use Rattle.standard.specs.Calls.{writtenLength, writtenOut}
-use Rattle.rewriting.proofs.Joining.{laid-next}
+use Rattle.laying.proofs.Joining.{laid-next}
 use Rattle.entries.proofs.Sums.{length-bytes, sizes-append, inside-split, place-size}
 
 count-entries : (w : ℕ) (s : List ℕ) (n at : ℕ) → length (entriesAt w s at n) ≡ n

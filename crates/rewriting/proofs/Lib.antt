@@ -1,3 +1,2 @@
-pub mod Laying
-pub mod Joining
+pub mod Around
 pub mod Afresh

@@ -4,13 +4,13 @@ use entries::number_at;
 use entries::one_if;
 use entries::wide;
 use standard::Outcome;
-use standard::Version;
+use versions::version_in;
 ghost use mathlib.Core.Path.{_≡_};
 ghost use mathlib.Core.Bool.{false, _&&_, _||_};
 ghost use Prim.Native.Nat.{_+_, _<_, _≤_};
 ghost use lib.Dec.{eqb, leb};
 ghost use lib.ListN.{length, getD};
-ghost use Rattle.standard.specs.Settings.{versionIn, readable, isFile, bitCountOf};
+ghost use Rattle.standard.specs.Settings.{readable, isFile, bitCountOf};
 ghost use Rattle.theorems_settings.specs.Walk.{placed, goodAt, walk};
 
 // Whether an entry lies before `end` and points to `before`.
@@ -103,18 +103,6 @@ fn entries_good(s: &[u8], end: usize, w: usize, last: usize, most: usize, n: usi
         i += 1;
     }
     ((at == end) & (before == last)) & (seen <= most)
-}
-
-// The version of a file: there is one.
-pub fn version_in(file: &[u8]) -> Version
-    ensures { λ v. ⌜ (v ≡ versionIn (now (file .entry))) × (v .start ≤ 4) × (v .count ≤ 2) ⌝ }
-{
-    Version {
-        start: 2,
-        count: 1,
-        most: 40,
-        byte: 1,
-    }
 }
 
 // Whether the bytes are a settings file.

@@ -14,9 +14,9 @@ use Rattle.standard.specs.Bits.{bytesFor}
 use Rattle.standard.specs.Record.{topIndex, noRecord}
 use Rattle.standard.specs.Cp.{cpByteCount, cpBytes}
 use Rattle.standard.specs.Refusals.{outcomeAnswer, recordTests, readTests}
-use Rattle.standard.specs.Settings.{versionIn, Entry, entryAt, entriesAt, fileOf, entriesIn, settingsIn, find, there, below, entry, replace}
-use Rattle.standard.specs.Settings.{put, back, putFile, backFile, junctions, few, bitCountOf, readable, allReadable, isFile}
-use Rattle.standard.specs.Settings.{putTests, backTests, lookTests}
+use Rattle.standard.specs.Settings.{versionTwo, versionIn, versionFor, Entry, entryAt, entriesAt, fileOf, entriesIn, settingsIn, find}
+use Rattle.standard.specs.Settings.{there, below, entry, replace, put, back, putFile, backFile, junctions, few, bitCountOf, readable}
+use Rattle.standard.specs.Settings.{allReadable, isFile, putTests, backTests, lookTests}
 use Rattle.standard.specs.Calls.{accepted, over, writtenLength, writtenOut, readCall, readRefusal, readRecord, writeCall, writeRefusal}
 use Rattle.standard.specs.Calls.{writeBitCount, writeBytes, PutCall, putRefusal, BackCall, backRefusal, lookRefusal, recordOf, lookRecord}
 use Rattle.standard.specs.declared.Outcome.{Outcome}
@@ -35,8 +35,8 @@ use Rattle.theorems_settings.proofs.Bounds.{lawful-order, lawful-read}
 use Rattle.theorems_settings.proofs.Keeps.{junctions-put, good-lawful, found-readable, one-readable}
 use Rattle.entries.specs.Entries.{placeAfter}
 use Rattle.rewriting.specs.Rewriting.{ownEntries, rewritten, writtenRefusal}
-use Rattle.settings.specs.declared.Found.{Found}
-use Rattle.settings.specs.Finding.{FoundIn}
+use Rattle.places.specs.declared.Found.{Found}
+use Rattle.places.specs.Finding.{FoundIn}
 use Rattle.settings.specs.Putting.{cpPutTests, cpPutRefusal}
 use Rattle.settings.proofs.Finding.{replace-is, current-is, previous-is, own-is, there-is}
 
@@ -116,25 +116,22 @@ module _ (s : List ℕ) (j : ℕ) (e : isFile s ≡ true) (r : Found) (f : Found
       turn false = refl
 
   module _ (cp : List ℕ) (many : ℕ) (em : many ≡ junctions (put j cp (settingsIn s))) where
-    most : r .version .most ≡ versionIn s .most
-    most = ap (λ (v : Version). v .most) (f .version)
-
-    pub too-many : r .version .most < many → few (versionIn s) (put j cp (settingsIn s)) ≡ false
+    pub too-many : 400 < many → few versionTwo (put j cp (settingsIn s)) ≡ false
     unfolding few
-    too-many l = lt-leb _ (versionIn s .most) (omega (arith, most))
+    too-many l = lt-leb (junctions (put j cp (settingsIn s))) 400 (omega arith)
 
-    pub not-many : many ≤ r .version .most → few (versionIn s) (put j cp (settingsIn s)) ≡ true
+    pub not-many : many ≤ 400 → few versionTwo (put j cp (settingsIn s)) ≡ true
     unfolding few
-    not-many l = le-leb _ (versionIn s .most) (omega (arith, most))
+    not-many l = le-leb (junctions (put j cp (settingsIn s))) 400 (omega arith)
 
-  pub put-is : (cp old : List ℕ) → (has ≡ true → old ≡ cpAt (r .below))
-      → fileOf (r .version) (rewritten w s (r .entries) (r .below) (r .upto) (ownEntries j cp has old)) ≡ putFile s j cp
-  unfolding putFile put
-  put-is cp old h =
-      ap₂ fileOf (f .version)
-      (sym (replaced (ownEntries j cp has old))
-      ∙ ap (λ (own : List Entry). replace j own (settingsIn s))
-      (sym (own-is j cp (find 0 j (settingsIn s)) has (cpAt (r .below)) old current-found h)))
+    pub put-is : (form : Version) → form ≡ versionFor (r .version) many → (old : List ℕ) → (has ≡ true → old ≡ cpAt (r .below))
+        → fileOf form (rewritten w s (r .entries) (r .below) (r .upto) (ownEntries j cp has old)) ≡ putFile s j cp
+    unfolding putFile put
+    put-is form e old h =
+        ap₂ fileOf (e ∙ ap₂ versionFor (f .version) em)
+        (sym (replaced (ownEntries j cp has old))
+        ∙ ap (λ (own : List Entry). replace j own (settingsIn s))
+        (sym (own-is j cp (find 0 j (settingsIn s)) has (cpAt (r .below)) old current-found h)))
 
   pub back-is : (now old : List ℕ) → r .below + 1 < r .upto → now ≡ cpAt (r .below + 1) → old ≡ cpAt (r .below)
       → fileOf (r .version) (rewritten w s (r .entries) (r .below) (r .upto) (ownEntries j now true old)) ≡ backFile s j
@@ -158,11 +155,11 @@ module _ (s : List ℕ) (j : ℕ) (cp : List ℕ) (room : ℕ) where
   unfolding cpPutRefusal cpPutTests first
   cp-broken e = rw e
 
-  pub cp-many : isFile s ≡ true → few (versionIn s) (put j cp (settingsIn s)) ≡ false → bare 24 ≡ cpPutRefusal s j cp room
+  pub cp-many : isFile s ≡ true → few versionTwo (put j cp (settingsIn s)) ≡ false → bare 24 ≡ cpPutRefusal s j cp room
   unfolding cpPutRefusal cpPutTests first
   cp-many e m = rw (e, m)
 
-  pub cp-past : isFile s ≡ true → few (versionIn s) (put j cp (settingsIn s)) ≡ true
+  pub cp-past : isFile s ≡ true → few versionTwo (put j cp (settingsIn s)) ≡ true
       → writtenRefusal room (putFile s j cp) ≡ cpPutRefusal s j cp room
   unfolding cpPutRefusal cpPutTests writtenRefusal first
   cp-past e m = rw (e, m)

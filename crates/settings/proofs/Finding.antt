@@ -17,7 +17,8 @@ use Rattle.theorems_settings.specs.Walk.{rising}
 use Rattle.theorems_settings.proofs.Order.{Current, Previous, order-cases, rising-head, rising-tail, below-none, above-all}
 use Rattle.theorems_settings.proofs.Counting.{none-from, found-here}
 use Rattle.entries.specs.Entries.{placeAfter}
-use Rattle.rewriting.specs.Rewriting.{given, ownEntries, rewritten}
+use Rattle.laying.specs.Laying.{given}
+use Rattle.rewriting.specs.Rewriting.{ownEntries, rewritten}
 use Rattle.entries.proofs.Inside.{entries-append}
 
 -- below and above are the front and the end of a list in order

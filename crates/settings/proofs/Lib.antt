@@ -1,4 +1,2 @@
-pub mod Opening
 pub mod Finding
 pub mod Answers
-pub mod Reading

@@ -2,12 +2,13 @@
 use console::Ends;
 use console::fail_name;
 use console::has;
-use words::Number;
+use parts::Number;
 
-// What is asked for, with the junction; nothing where the words are wrong.
+// What is asked for, with the junction; nothing where the words are wrong. A new file is of version 1 or 2.
 pub enum Asked {
     Nothing,
     New,
+    NewTwo,
     List,
     Put(u16),
     Back(u16),
@@ -26,8 +27,8 @@ const SHOW: usize = 5;
 
 // The number of the word that follows FILE; says so and returns 0 where it is another.
 fn form_in(e: Ends, words: &[u8]) -> usize {
-    let word = words::nth_part(words, 0, 2);
-    let form = words::which(b"new\nlist\nput\nback\nshow\n", b'\n', word);
+    let word = parts::nth_part(words, 0, 2);
+    let form = parts::which(b"new\nlist\nput\nback\nshow\n", b'\n', word);
     if form == 0 {
         fail_name(
             e,
@@ -51,18 +52,18 @@ fn least_of(form: usize) -> usize {
 fn most_of(form: usize) -> usize {
     match form {
         PUT | SHOW => 5,
-        BACK => 4,
+        NEW | BACK => 4,
         _ => 3,
     }
 }
 
 // Whether word 4 may follow JUNCTION: with show it is cp; says so where it is not.
 fn right_end(e: Ends, words: &[u8], form: usize) -> bool {
-    if (form != SHOW) | (words::part_count(words, 0) < 5) {
+    if (form != SHOW) | (parts::part_count(words, 0) < 5) {
         return true;
     }
-    let word = words::nth_part(words, 0, 4);
-    if words::which(b"cp\n", b'\n', word) == 1 {
+    let word = parts::nth_part(words, 0, 4);
+    if parts::which(b"cp\n", b'\n', word) == 1 {
         return true;
     }
     fail_name(e, b"after JUNCTION there may be the word cp, not @", word)
@@ -70,7 +71,7 @@ fn right_end(e: Ends, words: &[u8], form: usize) -> bool {
 
 // The number that a word says; the largest where it says none.
 fn number_of(word: &[u8]) -> u64 {
-    let number = words::number_in(word);
+    let number = parts::number_in(word);
     let Number::Is(n) = number else {
         return u64::MAX;
     };
@@ -94,12 +95,32 @@ fn asked_for(form: usize, junction: u16, count: usize) -> Asked {
 
 // What the words ask for with the junction that word 3 names; says so where it names none.
 fn asked_at(e: Ends, words: &[u8], form: usize) -> Asked {
-    let word = words::nth_part(words, 0, 3);
+    let word = parts::nth_part(words, 0, 3);
     let number = number_of(word);
     match number {
-        0..=65535 => asked_for(form, number as u16, words::part_count(words, 0)),
+        0..=65535 => asked_for(form, number as u16, parts::part_count(words, 0)),
         _ => {
             fail_name(e, b"JUNCTION is a number from 0 to 65535, not @", word);
+            Asked::Nothing
+        }
+    }
+}
+
+// A settings file of the version that word 3 names, version 1 where there is no such word; says so where it names another.
+fn new_in(e: Ends, words: &[u8]) -> Asked {
+    if parts::part_count(words, 0) < 4 {
+        return Asked::New;
+    }
+    let word = parts::nth_part(words, 0, 3);
+    match parts::which(b"1\n2\n", b'\n', word) {
+        1 => Asked::New,
+        2 => Asked::NewTwo,
+        _ => {
+            fail_name(
+                e,
+                b"after new there may be the version, 1 or 2, not @",
+                word,
+            );
             Asked::Nothing
         }
     }
@@ -115,7 +136,7 @@ pub fn asked_in(e: Ends, words: &[u8]) -> Asked {
         return Asked::Nothing;
     }
     match form {
-        NEW => Asked::New,
+        NEW => new_in(e, words),
         PUT..=SHOW => {
             if right_end(e, words, form) {
                 return asked_at(e, words, form);

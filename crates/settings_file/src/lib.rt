@@ -21,26 +21,20 @@ use sentences::say_changed;
 use standard::FileWritten;
 use standard::Record;
 ghost use mathlib.Core.Path.{_≡_};
-ghost use mathlib.Core.Bool.{true};
 ghost use Prim.Native.Nat.{_≤_};
 ghost use lib.ListN.{length, take};
 ghost use Rattle.standard.specs.Bits.{bytesFor};
-ghost use Rattle.standard.specs.Settings.{isFile};
 
 // The most bytes that are read of a settings file and written to one; a file that keeps the rules has fewer.
-const MOST_BYTES: usize = 16384;
-
-// The settings file with no junction: the number of its entries, the start of the last one, the version.
-fn empty_file() -> [u8; 4]
-    ensures { λ s. ⌜ isFile s ≡ true ⌝ }
-{
-    [0, 0, 0, 1]
-}
+const MOST_BYTES: usize = 131072;
 
 // Makes a settings file with no junction, where no file has this name, and says so.
-fn make(e: Ends, name: &[u8]) -> bool {
-    let bytes = empty_file();
-    is_missing(e, name) && save(e, name, &bytes) && tell_name(e, b"@ made, with no junction", name)
+fn make(e: Ends, name: &[u8], two: bool) -> bool {
+    let file = versions::empty_file(two);
+    let bytes = file.bytes;
+    is_missing(e, name)
+        && save(e, name, front(&bytes, file.length))
+        && tell_name(e, b"@ made, with no junction", name)
 }
 
 // The first n bytes; all of them where there are no more.
@@ -75,7 +69,7 @@ fn finish(
     let outcome = made.outcome;
     let code = codes::code_of(outcome);
     if code != 0 {
-        return refuse_change(e, name, file, junction, code, back);
+        return refuse_change(e, name, junction, code, back);
     }
     keep(e, name, file, front(out, made.length), junction, back)
 }
@@ -127,7 +121,7 @@ fn show_in(e: Ends, name: &[u8], file: &[u8], junction: u16, as_cp: bool) -> boo
     let outcome = read.outcome;
     let code = codes::code_of(outcome);
     if code != 0 {
-        return refuse(e, name, file, junction, code, false);
+        return refuse(e, name, junction, code, false);
     }
     let mut bytes = [0u8; 122];
     write_setting(e, read.record, as_cp, &mut bytes)
@@ -172,7 +166,10 @@ pub fn run(e: Ends, name: &[u8], asked: Asked) -> bool {
         return false;
     }
     if let Asked::New = asked {
-        return make(e, name);
+        return make(e, name, false);
+    }
+    if let Asked::NewTwo = asked {
+        return make(e, name, true);
     }
     let mut bytes = [0u8; MOST_BYTES];
     let got = load(e, name, &mut bytes);

@@ -34,17 +34,10 @@ fn first_of(code: u32, most: usize, junction: u16) -> u64 {
 }
 
 // Says what a call for a junction is refused for.
-pub(crate) fn refuse(
-    e: Ends,
-    name: &[u8],
-    file: &[u8],
-    junction: u16,
-    code: u32,
-    back: bool,
-) -> bool
+pub(crate) fn refuse(e: Ends, name: &[u8], junction: u16, code: u32, back: bool) -> bool
     ensures { λ x. ⌜ x ≡ false ⌝ }
 {
-    let version = rules::version_in(file);
+    let two = versions::version_two();
     fail_choice(
         e,
         b"@ is no settings file: it breaks the rules of one, or a CP in it is refused (refusal 22)|\
@@ -53,23 +46,16 @@ pub(crate) fn refuse(
         @ has # junctions, the most there can be, so junction # cannot be put (refusal 24)|\
         @ is refused|",
         sentence_of(code, back),
-        &[first_of(code, version.most, junction), junction as u64],
+        &[first_of(code, two.most, junction), junction as u64],
         name,
     )
 }
 
 // Says what a put or a going back is refused for, and that the file is not changed.
-pub(crate) fn refuse_change(
-    e: Ends,
-    name: &[u8],
-    file: &[u8],
-    junction: u16,
-    code: u32,
-    back: bool,
-) -> bool
+pub(crate) fn refuse_change(e: Ends, name: &[u8], junction: u16, code: u32, back: bool) -> bool
     ensures { λ x. ⌜ x ≡ false ⌝ }
 {
-    refuse(e, name, file, junction, code, back) || fail_as_it_was(e, name)
+    refuse(e, name, junction, code, back) || fail_as_it_was(e, name)
 }
 
 // The changes that `say_changed` tells: a junction's first setting is put, one is put over another, or one is gone back to.

@@ -25,8 +25,8 @@ struct Row {
 
 // The junction whose entries begin at a place of the file.
 fn row_at(file: &[u8], at: usize) -> Row {
-    let own = settings::entry_at(file, at);
-    let second = settings::entry_at(file, own.next);
+    let own = listing::entry_at(file, at);
+    let second = listing::entry_at(file, own.next);
     let kept = second.found & second.previous;
     let current = own.record;
     let previous = second.record;
@@ -146,7 +146,7 @@ fn write_rows(e: Ends, file: &[u8]) -> Listed
 // Writes the table of the settings file with these bytes, and says how many junctions it has.
 pub(crate) fn list(e: Ends, name: &[u8], file: &[u8]) -> bool {
     if !rules::is_file(file) {
-        return refuse(e, name, file, 0, 22, false);
+        return refuse(e, name, 0, 22, false);
     }
     if !write(
         e,

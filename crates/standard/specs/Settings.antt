@@ -1,5 +1,5 @@
--- Document 02, A.7: the junction settings file. Its entries and their bytes, what a junction shows, putting and going back, the rules of a
--- file, and refusals 22 to 24. Assumes nothing.
+-- Document 02, A.7 and A.9: the junction settings file. Its versions, its entries and their bytes, what a junction shows, putting and going
+-- back, the rules of a file, and refusals 22 to 24. Assumes nothing.
 use Prim.Native.Nat.{ℕ, zero, suc, _+_, _-_, _*_, _/_, _%_}
 use mathlib.Core.Bool.{Bool, true, false, not, cond, _&&_, _||_}
 use mathlib.Core.List.{List, [], _∷_, _++_}
@@ -19,9 +19,18 @@ use Rattle.standard.specs.declared.Version.{Version}
 abbrev pub versionOne : Version
 versionOne = record { start = 2; count = 1; most = 40; byte = 1 }
 
--- the version of a file: there is one
+-- A.9: 'Version 2 ends in byte 2, has a 2-byte count and 4-byte starts, and is otherwise the same'; 'a 401st' is turned away
+abbrev pub versionTwo : Version
+versionTwo = record { start = 4; count = 2; most = 400; byte = 2 }
+
+-- the version of a file, by its last byte; one that ends in neither 1 nor 2 breaks the rules of version 1
 unfoldable pub versionIn : List ℕ → Version
-versionIn s = versionOne
+versionIn s = cond (eqb (getD s (length s - 1) 0) 2) versionTwo versionOne
+
+-- the version that a put leaves of version v, with n junctions then: it 'keeps a file's version, save that a 41st junction turns version 1
+-- into version 2'
+unfoldable pub versionFor : Version → ℕ → Version
+versionFor v n = cond (leb n (v .most)) v versionTwo
 
 -- ---- entries and their bytes
 
@@ -156,9 +165,16 @@ put j cp es = replace j (entriesFor j (afterPut cp (shown j es))) es
 unfoldable pub back : ℕ → List Entry → List Entry
 back j es = replace j (entriesFor j (afterBack (shown j es))) es
 
+-- how many junctions there are: each has one current entry
+unfoldable pub junctions : List Entry → ℕ
+junctions [] = 0
+junctions (e ∷ es) = cond (eqb (e .kind) 0) 1 0 + junctions es
+
 -- 'writes the file afresh'
 unfoldable pub putFile : List ℕ → ℕ → List ℕ → List ℕ
-putFile s j cp = fileOf (versionIn s) (put j cp (settingsIn s))
+putFile s j cp =
+    let es = put j cp (settingsIn s) in
+    fileOf (versionFor (versionIn s) (junctions es)) es
 
 -- 'written likewise'
 unfoldable pub backFile : List ℕ → ℕ → List ℕ
@@ -193,12 +209,7 @@ unfoldable pub orderly : List Entry → Bool
 orderly [] = true
 orderly (e ∷ es) = eqb (e .kind) 0 && inOrder e es
 
--- how many junctions there are: each has one current entry
-unfoldable pub junctions : List Entry → ℕ
-junctions [] = 0
-junctions (e ∷ es) = cond (eqb (e .kind) 0) 1 0 + junctions es
-
--- 'at most 40 junctions'
+-- 'at most 40 junctions', in version 2 at most 400
 unfoldable pub few : Version → List Entry → Bool
 few v es = leb (junctions es) (v .most)
 
@@ -235,9 +246,9 @@ fileBroken s = test 22 (not (isFile s))
 abbrev pub settingMissing : Option (List ℕ) → Test
 settingMissing x = test 23 (not (there x))
 
--- 24. 'a put would make a 41st junction'
+-- 24. 'a put would make a 41st junction'; A.9: 'Refusal 24 then means a 401st'
 abbrev pub tooManyJunctions : List ℕ → ℕ → List ℕ → Test
-tooManyJunctions s j cp = test 24 (not (few (versionIn s) (put j cp (settingsIn s))))
+tooManyJunctions s j cp = test 24 (not (few versionTwo (put j cp (settingsIn s))))
 
 -- 17. the file written is longer than the buffer
 abbrev pub noRoom : ℕ → List ℕ → Test

@@ -1,7 +1,4 @@
 // V.91 7.2 and 7.5: a CP and E_s on the line, an octet for each bit, and the line state found from the octets at their end.
-use bits::bit_of;
-use pcm::octet_of;
-use pcm::sign_of;
 use standard::CpSent;
 use standard::Law;
 use standard::LineState;
@@ -9,79 +6,22 @@ use standard::Outcome;
 use standard::Record;
 use standard::Refusal;
 use standard::StateFound;
+use start_bits::found_in;
+use start_bits::send_bits;
 ghost use mathlib.Core.Path.{_≡_};
-ghost use mathlib.Core.List.{_++_};
 ghost use Prim.Native.Nat.{_+_, _^_, _<_, _≤_};
 ghost use lib.Dec.{ltb};
 ghost use lib.ListN.{length};
 ghost use Rattle.standard.specs.First.{first};
-ghost use Rattle.standard.specs.Bits.{bitsIn};
-ghost use Rattle.standard.specs.Scrambler.{taps, push as pushBit};
 ghost use Rattle.standard.specs.Record.{topIndex};
 ghost use Rattle.standard.specs.Cp.{cpLength};
-ghost use Rattle.standard.specs.Start.{withLine, endOfCp, cpAndEnd, octetsFor, leftBy, foundHistory, foundSign};
+ghost use Rattle.standard.specs.Start.{cpAndEnd, octetsFor, leftBy};
 ghost use Rattle.standard.specs.Refusals.{outcomeAnswer, sendCpTests};
 ghost use Rattle.standard.specs.Calls.{cpCall, sendCpRefusal, sendCpCount, sendCpOctets, sendCpLeft, findRefusal, findLeft};
-
-// The Ucode of every octet.
-const UCODE: u8 = 66;
+pub use start_bits::FOUND_FROM;
 
 // E_s: twelve zero bits.
 pub const END_BITS: usize = 12;
-
-// The octets at the end of a CP and E_s from which the line state is found.
-pub const FOUND_FROM: usize = 24;
-
-// The bits 18 and 23 places back in a history, by XOR.
-fn taps_of(history: u32) -> bool
-    ensures { λ x. ⌜ x ≡ taps history ⌝ }
-{
-    bit_of(history as u64, 17) ^ bit_of(history as u64, 22)
-}
-
-// The history after one bit more.
-fn push(history: u32, bit: bool) -> u32
-    requires { ⌜ history < 2 ^ 23 ⌝ }
-    ensures { λ x. ⌜ (x ≡ pushBit history bit) × (x < 2 ^ 23) ⌝ }
-{
-    (2 * history + bit as u32) % 0x80_0000
-}
-
-// A line state with another history and another last sign.
-fn with_line(state: LineState, history: u32, sign: bool) -> LineState
-    ensures { λ x. ⌜ x ≡ withLine state history sign ⌝ }
-{
-    let sequence = state.sequence;
-    LineState {
-        history,
-        sign,
-        doubtful: state.doubtful,
-        place: state.place,
-        done: state.done,
-        sequence,
-        lost: state.lost,
-    }
-}
-
-// Sends the first `count` bits of a CP and then E_s, an octet for each, and answers the line state left.
-fn send_bits(law: Law, state: LineState, cp: &[u8], count: usize, octets: &mut [u8]) -> LineState
-    requires { ⌜ (state .history < 2 ^ 23) × (length (now octets) ≡ count + 12) ⌝ }
-    ensures { λ x. ⌜ (let sent = bitsIn count (now (cp .entry)) ++ endOfCp in
-        (x ≡ leftBy state sent) × (now (octets .exit) ≡ octetsFor law state sent)) ⌝ }
-{
-    let mut history = state.history;
-    let mut sign = state.sign;
-    let mut n = 0;
-    while n < octets.len() {
-        let bit = (n < count) & bits::bit_at(cp, n);
-        let scrambled = bit ^ taps_of(history);
-        history = push(history, scrambled);
-        sign = scrambled ^ sign;
-        octets[n] = octet_of(law, sign, UCODE);
-        n += 1;
-    }
-    with_line(state, history, sign)
-}
 
 // Refusals 4, 9, 10, 25, 11, 12, 14, 18, 19 and 17, where `room` octets are lent.
 fn cp_fault(r: Record, state: LineState, room: usize) -> Outcome
@@ -91,7 +31,7 @@ fn cp_fault(r: Record, state: LineState, room: usize) -> Outcome
     if let Outcome::Refused(_) = fault {
         return fault;
     }
-    let fault = needs::state_fault(state);
+    let fault = state_faults::state_fault(state);
     if let Outcome::Refused(_) = fault {
         return fault;
     }
@@ -143,23 +83,6 @@ pub fn send_cp(r: Record, law: Law, state: LineState, octets: &mut [u8]) -> CpSe
         octet_count: end,
         state: left,
     }
-}
-
-// The line state with the history and the last sign that 24 octets leave.
-fn found_in(octets: &[u8], state: LineState) -> LineState
-    requires { ⌜ length (now octets) ≡ 24 ⌝ }
-    ensures { λ x. ⌜ x ≡ withLine state (foundHistory (now (octets .entry))) (foundSign (now (octets .entry))) ⌝ }
-{
-    let mut history = 0;
-    let mut sign = sign_of(octets[0]);
-    let mut k = 1;
-    while k < FOUND_FROM {
-        let next = sign_of(octets[k]);
-        history = push(history, next ^ sign);
-        sign = next;
-        k += 1;
-    }
-    with_line(state, history, sign)
 }
 
 // The entry: finds the line state that a CP and E_s left from the last 24 of the octets. Refusal 16 where there are fewer.

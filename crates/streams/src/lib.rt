@@ -1,20 +1,10 @@
-// Data and octets of any length, call after call: how data is cut into frames, bits that fill no byte yet, what the marks come to, and the
-// control channel's data in digits.
+// Data and octets of any length, call after call: the line state to begin in, how data is cut into frames, and their control sequences.
 use standard::LineState;
 use standard::Record;
-use std::num::wrapping_add_u64;
 ghost use mathlib.Core.Path.{_≡_};
-ghost use mathlib.Core.Bool.{cond};
-ghost use mathlib.Core.List.{map};
-ghost use Prim.Native.Nat.{ℕ, _+_, _*_, _/_, _%_, _^_, _≤_, _<_, min};
-ghost use lib.Dec.{eqb};
-ghost use lib.ListN.{length};
-ghost use Rattle.standard.specs.Bits.{bitAt, bytesOf, field, odd, numberOf};
+ghost use Prim.Native.Nat.{ℕ, _+_, _*_, _/_, _%_, _≤_, _<_};
 ghost use Rattle.standard.specs.Frame.{begun as begunWith, fresh, cold, isControl, width, callBits};
 ghost use Rattle.streams.specs.Cut.{CutInto};
-ghost use Rattle.streams.specs.Digits.{digitsOf};
-ghost use Rattle.streams.specs.Later.{later, differing as Later·differing};
-ghost use Rattle.streams.specs.Marks.{noted};
 
 // The line state of an end that begins, with so many doubtful bits.
 fn begun(doubtful: u8) -> LineState
@@ -140,111 +130,5 @@ pub fn sequences_in(frames: u64) -> Sequences
     Sequences {
         whole: control / 16,
         more: control % 16,
-    }
-}
-
-// Writes the data of a control sequence in digits; the first is bit 2 of `word`.
-pub fn put_digits(word: u64, digits: &mut [u8])
-    requires { ⌜ length (now digits) ≤ 54 ⌝ }
-    ensures { λ x. ⌜ now (digits .exit) ≡ digitsOf word (length (now (digits .entry))) ⌝ }
-{
-    let mut i = 0;
-    while i < digits.len() {
-        digits[i] = b'0' + bits::bit_of(word, i + 2) as u8;
-        i += 1;
-    }
-}
-
-// The number in binary digits, the lowest first.
-pub fn number_of(digits: &[u8]) -> u64
-    requires { ⌜ length (now digits) ≤ 54 ⌝ }
-    ensures { λ x. ⌜ x ≡ numberOf (map odd (now (digits .entry))) ⌝ }
-{
-    let mut number = 0;
-    let mut i = digits.len();
-    while i > 0 {
-        i -= 1;
-        number = 2 * number + bits::wide(digits[i]) % 2;
-    }
-    number
-}
-
-// The byte in the eight bits from bit `at` on.
-pub fn byte_at(bytes: &[u8], at: usize) -> u8
-    requires { ⌜ at ≤ 2 ^ 32 ⌝ }
-    ensures { λ x. ⌜ x ≡ field (bitAt (now (bytes .entry))) at 8 ⌝ }
-{
-    (bits::field_at(bytes, at, 8) % 256) as u8
-}
-
-// Fills `out` with the bits from bit `at` on.
-pub fn copy_bits(bytes: &[u8], at: usize, out: &mut [u8])
-    requires { ⌜ (at ≤ 2 ^ 16) × (length (now out) ≤ 2 ^ 16) ⌝ }
-    ensures { λ x. ⌜ now (out .exit) ≡ bytesOf (length (now (out .entry))) (later at (bitAt (now (bytes .entry)))) ⌝ }
-{
-    let mut i = 0;
-    while i < out.len() {
-        out[i] = byte_at(bytes, at + 8 * i);
-        i += 1;
-    }
-}
-
-// How many of the `count` bits from bit `at` on are not the same in two buffers.
-pub fn differing(a: &[u8], b: &[u8], at: usize, count: usize) -> usize
-    requires { ⌜ at + count ≤ 2 ^ 32 ⌝ }
-    ensures { λ n. ⌜ n ≡ Later·differing (bitAt (now (a .entry))) (bitAt (now (b .entry))) at count ⌝ }
-{
-    let mut differ = 0;
-    let mut i = 0;
-    while i < count {
-        differ += (bits::bit_at(a, at + i) ^ bits::bit_at(b, at + i)) as usize;
-        i += 1;
-    }
-    differ
-}
-
-// What the marks of the frames so far come to: how many frames there are and how many are marked, the mark of the last one and the first of
-// the frames up to it that have that mark, and how many bits of good frames are doubtful.
-pub struct Report {
-    pub frames: u64,
-    pub marked: u64,
-    pub mark: u8,
-    pub first: u64,
-    pub doubtful: u64,
-}
-
-// The first frame of the run that the next frame is in.
-fn run_start(p: Report, mark: u8) -> u64
-    ensures { λ x. ⌜ x ≡ cond (eqb mark (p .mark)) (p .first) (p .frames) ⌝ }
-{
-    if mark == p.mark {
-        return p.first;
-    }
-    p.frames
-}
-
-// How many bits of a frame of `width` bits are doubtful, where it is good and `coming` bits are doubtful before it.
-fn doubtful_in(width: u64, coming: u8, mark: u8) -> u64
-    ensures { λ x. ⌜ x ≡ cond (eqb mark 0) (min width coming) 0 ⌝ }
-{
-    if mark != 0 {
-        return 0;
-    }
-    if width < coming as u64 {
-        return width;
-    }
-    coming as u64
-}
-
-// One frame more, of `width` data bits, before which `coming` bits are doubtful.
-pub fn note(p: Report, width: u64, coming: u8, mark: u8) -> Report
-    ensures { λ x. ⌜ x ≡ noted width coming p mark ⌝ }
-{
-    Report {
-        frames: wrapping_add_u64(p.frames, 1),
-        marked: wrapping_add_u64(p.marked, (mark != 0) as u64),
-        mark,
-        first: run_start(p, mark),
-        doubtful: wrapping_add_u64(p.doubtful, doubtful_in(width, coming, mark)),
     }
 }

@@ -13,10 +13,10 @@ pub struct Call {
 
 // Reads a call into `bytes`.
 fn read(bytes: &mut [u8], left: u64) -> Call
-    requires { ⌜ length (now bytes) ≤ 16384 ⌝ }
+    requires { ⌜ length (now bytes) ≤ 131072 ⌝ }
     ensures { λ k. ⌜ (k .length ≤ length (now (bytes .exit))) × (k .left ≤ left) ⌝ }
 {
-    let mut text = [0u8; 32768];
+    let mut text = [0u8; 262144];
     let room = 2 * bytes.len();
     let line = read_bytes(&mut text[0..room], bytes);
     if line.found {
@@ -30,7 +30,7 @@ fn read(bytes: &mut [u8], left: u64) -> Call
 
 // Reads the first call into `bytes`.
 pub fn first(bytes: &mut [u8]) -> Call
-    requires { ⌜ length (now bytes) ≤ 16384 ⌝ }
+    requires { ⌜ length (now bytes) ≤ 131072 ⌝ }
     ensures { λ k. ⌜ k .length ≤ length (now (bytes .exit)) ⌝ }
 {
     read(bytes, u64::MAX)
@@ -38,10 +38,10 @@ pub fn first(bytes: &mut [u8]) -> Call
 
 // Writes the answer to a call and reads the next one into `bytes`; there is none where the answer could not be written.
 pub fn next(call: Call, answer: &[u8], bytes: &mut [u8]) -> Call
-    requires { ⌜ (0 < call .left) × (length (now answer) ≤ 16384) × (length (now bytes) ≤ 16384) ⌝ }
+    requires { ⌜ (0 < call .left) × (length (now answer) ≤ 131072) × (length (now bytes) ≤ 131072) ⌝ }
     ensures { λ k. ⌜ (k .length ≤ length (now (bytes .exit))) × (k .left < call .left) ⌝ }
 {
-    let mut text = [0u8; 32768];
+    let mut text = [0u8; 262144];
     if write_bytes(answer, &mut text) {
         return read(bytes, call.left - 1);
     }

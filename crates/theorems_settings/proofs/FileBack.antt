@@ -88,7 +88,7 @@ module _ (f : Version) (es : List Entry) where
       ap (λ (t : List ℕ). littleAt t n (f .start)) (sym (append-assoc bytes (little (f .count) (length es)) tail))
       ∙ little-back (f .start) last front (f .byte ∷ []) n e h
 
-  version-back : getD (fileOf f es) (length (fileOf f es) - 1) 0 ≡ f .byte
+  pub version-back : getD (fileOf f es) (length (fileOf f es) - 1) 0 ≡ f .byte
   unfolding fileOf
   version-back =
       let n : ℕ = length (fileOf f es) - 1 in

@@ -7,14 +7,14 @@ use mathlib.Core.Bool.{Bool, true, false, cond, _&&_}
 use mathlib.Core.List.{List, [], _∷_, _++_}
 use native.Mathlib.Omega.{arith}
 use borrow.Author.Tests.{eqb-true, eqb-false, eq-eqb, le-leb, ltb-false, not-false}
-use lib.Dec.{T, eqb, ltb}
+use lib.Dec.{T, eqb, leb, ltb}
 use lib.ListN.{length, getD, take, drop, length-take}
 use Rattle.standard.specs.Lists.{listFrom}
 use Rattle.standard.specs.Cp.{cpBytes}
 use Rattle.standard.specs.Refusals.{emptyTest, emptyTests, rateTests, recordTests}
-use Rattle.standard.specs.Settings.{versionIn, Entry, littleAt, entryAt, nextAt, entriesAt, fileOf, entriesIn, settingsIn, find, there}
-use Rattle.standard.specs.Settings.{entry, below, above, replace, put, back, putFile, backFile, same, asWritten, junctions, few, readable}
-use Rattle.standard.specs.Settings.{allReadable, lawful, isFile, putTests, backTests}
+use Rattle.standard.specs.Settings.{versionTwo, versionIn, versionFor, Entry, littleAt, entryAt, nextAt, entriesAt, fileOf, entriesIn}
+use Rattle.standard.specs.Settings.{settingsIn, find, there, entry, below, above, replace, put, back, putFile, backFile, same, asWritten}
+use Rattle.standard.specs.Settings.{junctions, few, readable, allReadable, lawful, isFile, putTests, backTests}
 use Rattle.standard.specs.Calls.{accepted, PutCall, putRefusal, BackCall, backRefusal}
 use Rattle.standard.specs.declared.Record.{Record}
 use Rattle.standard.specs.declared.Version.{Version}
@@ -26,9 +26,10 @@ use Rattle.theorems_settings.proofs.Logic.{and-left, and-right, both}
 use Rattle.theorems_settings.proofs.Shown.{pair, find-other}
 use Rattle.theorems_settings.proofs.Order.{orderly-is, Current, Previous, order-cases, rising-head, rising-tail, replace-order}
 use Rattle.theorems_settings.proofs.Counting.{all-readable-replace, junctions-split, found-here}
-use Rattle.theorems_settings.proofs.FileBack.{entries-in}
+use Rattle.theorems_settings.proofs.FileBack.{version-back, entries-in}
 use Rattle.theorems_settings.proofs.Readable.{readable-short, readable-cp}
-use Rattle.theorems_settings.proofs.Bounds.{known-in, version-in, fits, lawful-order, lawful-most, lawful-read}
+use Rattle.theorems_settings.proofs.Bounds.{known-in, known-for, version-in, fits, lawful-order, lawful-most, lawful-read}
+use Rattle.theorems_settings.proofs.Bounds.{lawful-stays}
 
 -- ---- entries that fit their bytes
 
@@ -175,13 +176,22 @@ pub one-readable : (j : ℕ) (x : List ℕ) → allReadable (entry 1 j (some x))
 unfolding entry allReadable
 one-readable j x a = and-left (readable x) true a
 
-replace-lawful : (v : Version) (j : ℕ) (cp : List ℕ) (p : Option (List ℕ)) (es : List Entry) → lawful v es ≡ true
+replace-lawful : (u v : Version) (j : ℕ) (cp : List ℕ) (p : Option (List ℕ)) (es : List Entry) → lawful u es ≡ true
     → readable cp ≡ true → allReadable (entry 1 j p) ≡ true → few v (replace j (pair j (some cp) p) es) ≡ true
     → lawful v (replace j (pair j (some cp) p) es) ≡ true
 unfolding lawful
-replace-lawful v j cp p es h c q m =
-    both _ _ (orderly-is _ ∙ replace-order j cp p es (lawful-order v es h))
-    (both _ _ m (all-readable-replace j (pair j (some cp) p) es (pair-readable j cp p c q) (lawful-read v es h)))
+replace-lawful u v j cp p es h c q m =
+    both _ _ (orderly-is _ ∙ replace-order j cp p es (lawful-order u es h))
+    (both _ _ m (all-readable-replace j (pair j (some cp) p) es (pair-readable j cp p c q) (lawful-read u es h)))
+
+-- entries that version 2 may hold, in the version in which they are written
+few-for : (v : Version) (es : List Entry) → few versionTwo es ≡ true → few (versionFor v (junctions es)) es ≡ true
+unfolding few versionFor
+few-for v es h = go (leb (junctions es) (v .most)) refl
+  where
+    go : (b : Bool) → leb (junctions es) (v .most) ≡ b → leb (junctions es) (cond b v versionTwo .most) ≡ true
+    go true e = e
+    go false e = h
 
 -- ---- files
 
@@ -208,17 +218,18 @@ pub good-lawful : (s : List ℕ) → isFile s ≡ true → lawful (versionIn s) 
 unfolding isFile
 good-lawful s e = and-right (asWritten (versionIn s) s) _ e
 
-pub record Made (t : List ℕ) (es : List Entry) : Type 0 where
+pub record Made (v : Version) (t : List ℕ) (es : List Entry) : Type 0 where
   pub good : Good t
+  pub version : versionIn t ≡ v
   pub holds : settingsIn t ≡ es
 
 -- lawful entries written are a file that holds them
-pub made : (v : Version) (es : List Entry) → Known v → lawful v es ≡ true → Smalls es → Made (fileOf v es) es
+pub made : (v : Version) (es : List Entry) → Known v → lawful v es ≡ true → Smalls es → Made v (fileOf v es) es
 unfolding isFile asWritten settingsIn
 made v es k h m =
     let t : List ℕ = fileOf v es in
     let x = fits v es k h in
-    let e : versionIn t ≡ v = version-in v t k in
+    let e : versionIn t ≡ v = version-in t v k (version-back v es) in
     let r : entriesIn v t ≡ es = entries-in v es m (x .few) (x .low) (x .short) (x .some) in
     let q : settingsIn t ≡ es = ap (λ (u : Version). entriesIn u t) e ∙ r in
     record {
@@ -228,10 +239,15 @@ made v es k h m =
             (ap₂ lawful e q ∙ h);
         small = subst Smalls (sym q) m;
       };
+      version = e;
       holds = q;
     }
 
 -- ---- the two calls
+
+-- the version in which they write entries in place of those of a file
+abbrev pub writtenIn : List ℕ → List Entry → Version
+writtenIn s es = versionFor (versionIn s) (junctions es)
 
 put-numbered : (s : List ℕ) (j : ℕ) (r : Record) (room : ℕ) → T (numbered (putTests s j r room))
 unfolding putTests recordTests rateTests emptyTests emptyTest listFrom
@@ -240,7 +256,7 @@ put-numbered s j r room = tt
 pub record PutPassed (s : List ℕ) (c : PutCall) : Type 0 where
   pub own : None (recordTests (c .cp))
   pub file : isFile s ≡ true
-  pub few : few (versionIn s) (put (c .junction) (cpBytes (c .cp)) (settingsIn s)) ≡ true
+  pub few : few versionTwo (put (c .junction) (cpBytes (c .cp)) (settingsIn s)) ≡ true
   pub fits : length (putFile s (c .junction) (cpBytes (c .cp))) ≤ length (c .out)
 
 pub put-passed : (s : List ℕ) (c : PutCall) → accepted (putRefusal s c) ≡ true → PutPassed s c
@@ -269,17 +285,17 @@ back-passed s c e =
 
 -- a put, its record's own refusals past
 module _ (s : List ℕ) (j : ℕ) (r : Record) (shaped : Shaped r) (own : None (recordTests r)) (file : isFile s ≡ true)
-    (room : few (versionIn s) (put j (cpBytes r) (settingsIn s)) ≡ true) where
+    (room : few versionTwo (put j (cpBytes r) (settingsIn s)) ≡ true) where
   abbrev cp : List ℕ
   cp = cpBytes r
 
-  put-lawful : lawful (versionIn s) (put j cp (settingsIn s)) ≡ true
+  put-lawful : lawful (writtenIn s (put j cp (settingsIn s))) (put j cp (settingsIn s)) ≡ true
   unfolding put
   put-lawful =
       let es : List Entry = settingsIn s in
       let law = good-lawful s file in
-      replace-lawful (versionIn s) j cp (find 0 j es) es law (readable-cp r shaped own)
-      (found-readable 0 j 1 es (lawful-read (versionIn s) es law)) room
+      replace-lawful (versionIn s) (writtenIn s (put j cp es)) j cp (find 0 j es) es law (readable-cp r shaped own)
+      (found-readable 0 j 1 es (lawful-read (versionIn s) es law)) (few-for (versionIn s) (put j cp es) room)
 
   put-smalls : Good s → j < 65536 → Smalls (put j cp (settingsIn s))
   unfolding put
@@ -290,17 +306,18 @@ module _ (s : List ℕ) (j : ℕ) (r : Record) (shaped : Shaped r) (own : None (
       (g .small)
 
 pub put-kept : (s : List ℕ) (c : PutCall) → Shaped (c .cp) → accepted (putRefusal s c) ≡ true
-    → lawful (versionIn s) (put (c .junction) (cpBytes (c .cp)) (settingsIn s)) ≡ true
+    → (let es = put (c .junction) (cpBytes (c .cp)) (settingsIn s) in lawful (writtenIn s es) es ≡ true)
 put-kept s c shaped e =
     let p = put-passed s c e in
     put-lawful s (c .junction) (c .cp) shaped (p .own) (p .file) (p .few)
 
 pub put-made : (s : List ℕ) (c : PutCall) → Good s → c .junction < 65536 → Shaped (c .cp) → accepted (putRefusal s c) ≡ true
-    → Made (putFile s (c .junction) (cpBytes (c .cp))) (put (c .junction) (cpBytes (c .cp)) (settingsIn s))
+    → (let es = put (c .junction) (cpBytes (c .cp)) (settingsIn s) in Made (writtenIn s es) (putFile s (c .junction) (cpBytes (c .cp))) es)
 unfolding putFile
 put-made s c g h shaped e =
     let p = put-passed s c e in
-    made (versionIn s) _ (known-in s) (put-kept s c shaped e) (put-smalls s (c .junction) (c .cp) shaped (p .own) (p .file) (p .few) g h)
+    made _ _ (known-for (versionIn s) _ (known-in s)) (put-kept s c shaped e)
+    (put-smalls s (c .junction) (c .cp) shaped (p .own) (p .file) (p .few) g h)
 
 -- going back, where the previous setting is x
 module _ (s : List ℕ) (j : ℕ) (file : isFile s ≡ true) (x : List ℕ) (q : find 1 j (settingsIn s) ≡ some x) where
@@ -320,19 +337,21 @@ module _ (s : List ℕ) (j : ℕ) (file : isFile s ≡ true) (x : List ℕ) (q :
       (ap (λ (o : Option (List ℕ)). allReadable (entry 1 j o)) (sym q) ∙ found-readable 1 j 1 es (lawful-read (versionIn s) es law))
 
   -- no junction more
+  same-many : junctions (replace j (pair j (some x) (find 0 j es)) es) ≡ 0 + junctions es
+  same-many =
+      let order = lawful-order (versionIn s) es law in
+      junctions-put j x (find 0 j es) es order
+      ∙ ap (λ (b : Bool). cond b 0 1 + junctions es) (current-there j es order (ap there q))
+
   room : few (versionIn s) (replace j (pair j (some x) (find 0 j es)) es) ≡ true
   unfolding few
-  room =
-      let order = lawful-order (versionIn s) es law in
-      let t : there (find 0 j es) ≡ true = current-there j es order (ap there q) in
-      let m : junctions (replace j (pair j (some x) (find 0 j es)) es) ≡ 0 + junctions es
-      = junctions-put j x (find 0 j es) es order ∙ ap (λ (b : Bool). cond b 0 1 + junctions es) t in
-      le-leb _ (versionIn s .most) (omega (arith, m, lawful-most (versionIn s) es law))
+  room = le-leb _ (versionIn s .most) (omega (arith, same-many, lawful-most (versionIn s) es law))
 
   lawful-some : lawful (versionIn s) (back j es) ≡ true
   lawful-some =
       ap (lawful (versionIn s)) back-put
-      ∙ replace-lawful (versionIn s) j x (find 0 j es) es law read (found-readable 0 j 1 es (lawful-read (versionIn s) es law)) room
+      ∙ replace-lawful (versionIn s) (versionIn s) j x (find 0 j es) es law read
+      (found-readable 0 j 1 es (lawful-read (versionIn s) es law)) room
 
   smalls-some : j < 65536 → Smalls es → Smalls (back j es)
   smalls-some h m =
@@ -352,9 +371,27 @@ back-kept s c e =
     lawful-some s (c .junction) (p .file) (x .0) (x .1)
 
 pub back-made : (s : List ℕ) (c : BackCall) → Good s → c .junction < 65536 → accepted (backRefusal s c) ≡ true
-    → Made (backFile s (c .junction)) (back (c .junction) (settingsIn s))
+    → (let es = back (c .junction) (settingsIn s) in Made (writtenIn s es) (backFile s (c .junction)) es)
 unfolding backFile
 back-made s c g h e =
     let p = back-passed s c e in
     let x = some-there (find 1 (c .junction) (settingsIn s)) (p .has) in
-    made (versionIn s) _ (known-in s) (back-kept s c e) (smalls-some s (c .junction) (p .file) (x .0) (x .1) h (g .small))
+    let es : List Entry = back (c .junction) (settingsIn s) in
+    let law = back-kept s c e in
+    subst (λ (v : Version). Made v (fileOf (versionIn s) es) es) (sym (lawful-stays (versionIn s) es law))
+    (made (versionIn s) _ (known-in s) law (smalls-some s (c .junction) (p .file) (x .0) (x .1) h (g .small)))
+
+-- ---- no junction goes
+
+pub put-more : (s : List ℕ) (j : ℕ) (cp : List ℕ) → isFile s ≡ true → junctions (settingsIn s) ≤ junctions (put j cp (settingsIn s))
+unfolding put
+put-more s j cp file =
+    let es : List Entry = settingsIn s in
+    omega (arith, junctions-put j cp (find 0 j es) es (lawful-order (versionIn s) es (good-lawful s file)))
+
+pub back-same : (s : List ℕ) (c : BackCall) → accepted (backRefusal s c) ≡ true
+    → junctions (back (c .junction) (settingsIn s)) ≡ 0 + junctions (settingsIn s)
+back-same s c e =
+    let p = back-passed s c e in
+    let x = some-there (find 1 (c .junction) (settingsIn s)) (p .has) in
+    ap junctions (back-put s (c .junction) (p .file) (x .0) (x .1)) ∙ same-many s (c .junction) (p .file) (x .0) (x .1)

@@ -7,8 +7,8 @@ use mathlib.Core.Bool.{Bool, true, false, not, cond}
 use mathlib.Core.List.{List, [], _∷_, _++_}
 use native.Mathlib.Nat.{eq-zero-or-pos}
 use native.Mathlib.Omega.{arith}
-use borrow.Author.Tests.{eqb-true, eqb-false, le-leb}
-use lib.Dec.{T, lit<, eqb}
+use borrow.Author.Tests.{eqb-true, eqb-false, lt-leb, leb-false}
+use lib.Dec.{T, lit<, eqb, leb}
 use lib.ListN.{length, take, drop}
 use lib.Seq.{take-append-seam}
 use Rattle.standard.specs.Lists.{listFrom, after}
@@ -16,8 +16,8 @@ use Rattle.standard.specs.First.{bare, Test, test, first}
 use Rattle.standard.specs.Record.{noRecord}
 use Rattle.standard.specs.Cp.{cpBytes}
 use Rattle.standard.specs.Refusals.{emptyTest, emptyTests, rateTests, recordTests}
-use Rattle.standard.specs.Settings.{versionIn, Entry, fileOf, entriesIn, settingsIn, countIn, find, there, Shown, shown, put, backFile}
-use Rattle.standard.specs.Settings.{asWritten, junctions, few, lawful, isFile, putTests, lookTests}
+use Rattle.standard.specs.Settings.{versionTwo, versionIn, versionFor, Entry, fileOf, entriesIn, settingsIn, countIn, find, there, Shown}
+use Rattle.standard.specs.Settings.{shown, put, backFile, asWritten, junctions, few, lawful, isFile, putTests, lookTests}
 use Rattle.standard.specs.Calls.{accepted, over, PutCall, putRefusal, putWrites, putLength, putOut, BackCall, backRefusal}
 use Rattle.standard.specs.Calls.{backLength, backOut, lookRefusal, recordOf, lookRecord}
 use Rattle.standard.specs.declared.Record.{Record}
@@ -28,15 +28,16 @@ use Rattle.standard.proofs.Refusals.{record-numbered}
 use Rattle.theorems.specs.Runs.{overCalls}
 use Rattle.theorems_cp.specs.RoundTrip.{Shaped}
 use Rattle.theorems_settings.specs.Settings.{Bytes, Entries, FileIsEntries, FileCall, toPut, toGoBack, junctionOf, Typed}
-use Rattle.theorems_settings.specs.Settings.{answerTo, accepts, lengthBy, outBy, fileAfter, entriesAfter, CallKeeps, AllTyped}
-use Rattle.theorems_settings.specs.Settings.{fileLeft, naming, shownIn, turned, turnedAll, Looks, CallsSettle, NoJunctionMore}
+use Rattle.theorems_settings.specs.Settings.{answerTo, accepts, lengthBy, outBy, fileAfter, entriesAfter, mostBytes, CallKeeps}
+use Rattle.theorems_settings.specs.Settings.{AllTyped, fileLeft, naming, shownIn, turned, turnedAll, Looks, CallsSettle}
+use Rattle.theorems_settings.specs.Settings.{FortyFirst, FourHundredFirst}
 use Rattle.theorems_settings.proofs.Logic.{and-left}
 use Rattle.theorems_settings.proofs.Shown.{put-current, put-previous, put-other, back-current, back-previous, back-other}
 use Rattle.theorems_settings.proofs.Readable.{record-back}
-use Rattle.theorems_settings.proofs.Bounds.{known-in, lawful-order, lawful-most}
+use Rattle.theorems_settings.proofs.Bounds.{of-known, known-in, lawful-order, lawful-most, lawful-stays}
 use Rattle.theorems_settings.proofs.Keeps.{junctions-put, same-is, smalls-at, Good, good-lawful, Made, made, put-passed, put-made}
-use Rattle.theorems_settings.proofs.Keeps.{back-passed, back-made, some-there}
-use Rattle.theorems_settings.proofs.Lengths.{put-length, back-length}
+use Rattle.theorems_settings.proofs.Keeps.{back-passed, back-made, some-there, writtenIn, put-more, back-same}
+use Rattle.theorems_settings.proofs.Lengths.{file-length}
 
 -- ---- a file and its entries
 
@@ -48,16 +49,19 @@ bytes-are : (s : List ℕ) → isFile s ≡ true → fileOf (versionIn s) (setti
 unfolding isFile asWritten settingsIn
 bytes-are s h = same-is _ s (and-left _ (lawful (versionIn s) (settingsIn s)) h)
 
-holds-them : (v : Version) (es : List Entry) → Entries v es → settingsIn (fileOf v es) ≡ es
-holds-them v es h = made v es (h .0) (h .1) (h .2) .holds
+of-them : (v : Version) (es : List Entry) → Entries v es → Made v (fileOf v es) es
+of-them v es h = made v es (h .0) (h .1) (h .2)
 
 pub file-is-entries : FileIsEntries
 file-is-entries =
     record {
       bytes = bytes-are;
       entries = λ s b h. (known-in s, good-lawful s h, good s b h .small);
-      file = λ v es h. (made v es (h .0) (h .1) (h .2) .good .file, holds-them v es h);
-      others = λ v es ds h k e. sym (holds-them v es h) ∙ ap settingsIn e ∙ holds-them v ds k;
+      file = λ v es h. (let m = of-them v es h in (m .good .file, m .version, m .holds));
+      others = λ v u es ds h k e. (
+        sym (of-them v es h .version) ∙ ap versionIn e ∙ of-them u ds k .version,
+        sym (of-them v es h .holds) ∙ ap settingsIn e ∙ of-them u ds k .holds,
+      );
     }
 
 -- ---- one call
@@ -80,13 +84,16 @@ unfolding fileAfter
 after-by s c true e = rw e (taken s c e)
 after-by s c false e = rw e
 
-written-made : (s : List ℕ) (c : FileCall) → Typed c → Good s → accepts s c ≡ true → Made (written s c) (entriesAfter c (settingsIn s))
+abbrev MadeBy : List ℕ → FileCall → List ℕ → Type 0
+MadeBy s c t = Made (writtenIn s (entriesAfter c (settingsIn s))) t (entriesAfter c (settingsIn s))
+
+written-made : (s : List ℕ) (c : FileCall) → Typed c → Good s → accepts s c ≡ true → MadeBy s c (written s c)
 unfolding answerTo written entriesAfter
 written-made s (toPut c) t g e = put-made s c g (t .0) (t .1) e
 written-made s (toGoBack c) t g e = back-made s c g t e
 
-made-by : (s : List ℕ) (c : FileCall) → Typed c → Good s → accepts s c ≡ true → Made (fileAfter s c) (entriesAfter c (settingsIn s))
-made-by s c t g e = subst (λ (x : List ℕ). Made x (entriesAfter c (settingsIn s))) (sym (after-by s c true e)) (written-made s c t g e)
+made-by : (s : List ℕ) (c : FileCall) → Typed c → Good s → accepts s c ≡ true → MadeBy s c (fileAfter s c)
+made-by s c t g e = subst (MadeBy s c) (sym (after-by s c true e)) (written-made s c t g e)
 
 keeps : (s : List ℕ) (c : FileCall) → Typed c → Good s → Good (fileAfter s c)
 keeps s c t g = go (accepts s c) refl
@@ -105,20 +112,24 @@ unfolding answerTo lengthBy written putLength backLength
 length-by s (toPut c) e = rw e
 length-by s (toGoBack c) e = rw e
 
-length-few : (s : List ℕ) (c : FileCall) → Typed c → lengthBy s c ≤ 10244
-unfolding lengthBy
-length-few s (toPut c) t = put-length s c (t .1)
-length-few s (toGoBack c) t = back-length s c
+version-by : (s : List ℕ) (c : FileCall) → Typed c → Good s → accepts s c ≡ true
+    → versionIn (fileAfter s c) ≡ writtenIn s (settingsIn (fileAfter s c))
+version-by s c t g e = let m = made-by s c t g e in m .version ∙ ap (writtenIn s) (sym (m .holds))
+
+full : (t : List ℕ) → isFile t ≡ true → length t ≤ mostBytes (versionIn t)
+full t h = omega (arith, ap length (bytes-are t h), file-length (versionIn t) (settingsIn t) (good-lawful t h))
 
 pub call-keeps : CallKeeps
 call-keeps s b c t e =
     let h = had-file s c e in
     let m = made-by s c t (good s b h) e in
+    let n = ap length (after-by s c true e) ∙ length-by s c e in
     record {
       had = h;
       file = m .good .file;
-      long = ap length (after-by s c true e) ∙ length-by s c e;
-      most = omega (arith, length-few s c t);
+      version = version-by s c t (good s b h) e;
+      long = n;
+      most = omega (arith, n, full (fileAfter s c) (m .good .file));
       holds = m .holds;
     }
 
@@ -178,6 +189,52 @@ stays : (s : List ℕ) (cs : List FileCall) → AllTyped cs → Good s → Good 
 unfolding after AllTyped
 stays s [] t g = g
 stays s (c ∷ cs) t g = stays (fileAfter s c) cs (t .1) (keeps s c (t .0) g)
+
+-- the version is that of the junctions that there are, since none goes
+more : (s : List ℕ) (c : FileCall) → accepts s c ≡ true → junctions (settingsIn s) ≤ junctions (entriesAfter c (settingsIn s))
+unfolding answerTo entriesAfter
+more s (toPut c) e = put-more s (c .junction) (cpBytes (c .cp)) (put-passed s c e .file)
+more s (toGoBack c) e = omega (arith, back-same s c e)
+
+record Grown (s t : List ℕ) : Type 0 where
+  version : versionIn t ≡ writtenIn s (settingsIn t)
+  more : junctions (settingsIn s) ≤ junctions (settingsIn t)
+
+grown-same : (s : List ℕ) → Good s → Grown s s
+grown-same s g = record { version = sym (lawful-stays (versionIn s) (settingsIn s) (good-lawful s (g .file))); more = omega arith }
+
+grown-call : (s : List ℕ) (c : FileCall) → Typed c → Good s → Grown s (fileAfter s c)
+grown-call s c t g = go (accepts s c) refl
+  where
+    go : (b : Bool) → accepts s c ≡ b → Grown s (fileAfter s c)
+    go true e = record { version = version-by s c t g e; more = omega (arith, more s c e, ap junctions (made-by s c t g e .holds)) }
+    go false e = subst (Grown s) (sym (after-by s c false e)) (grown-same s g)
+
+two-only : (b : Bool) → cond b versionTwo versionTwo ≡ versionTwo
+two-only true = refl
+two-only false = refl
+
+for-more : (v : Version) (n m : ℕ) → n ≤ m → versionFor (versionFor v n) m ≡ versionFor v m
+unfolding versionFor
+for-more v n m h = go (leb n (v .most)) refl
+  where
+    go : (b : Bool) → leb n (v .most) ≡ b → versionFor (cond b v versionTwo) m ≡ versionFor v m
+    go true e = refl
+    go false e =
+        let l : v .most < m = omega (arith, leb-false n (v .most) e) in
+        two-only (leb m 400) ∙ ap (λ (b : Bool). cond b v versionTwo) (sym (lt-leb m (v .most) l))
+
+grown : (s : List ℕ) (cs : List FileCall) → AllTyped cs → Good s → Grown s (fileLeft s cs)
+unfolding after AllTyped
+grown s [] t g = grown-same s g
+grown s (c ∷ cs) t g =
+    let one = grown-call s c (t .0) g in
+    let rest = grown (fileAfter s c) cs (t .1) (keeps s c (t .0) g) in
+    let n : ℕ = junctions (settingsIn (fileLeft (fileAfter s c) cs)) in
+    record {
+      version = rest .version ∙ ap (λ (v : Version). versionFor v n) (one .version) ∙ for-more (versionIn s) _ n (rest .more);
+      more = omega (arith, one .more, rest .more);
+    }
 
 own : (j : ℕ) (s : List ℕ) (cs : List FileCall) → AllTyped cs → Good s → shownIn j (fileLeft s cs) ≡ turnedAll (shownIn j s) (naming j s cs)
 unfolding after AllTyped
@@ -289,6 +346,7 @@ calls-settle s b h cs t =
     let f = stays s cs t g .file in
     record {
       file = f;
+      version = grown s cs t g .version;
       own = λ j. own j s cs t g;
       looks = λ j cp e. looks-up (fileLeft s cs) j cp f e;
       missing = λ j e. not-there (fileLeft s cs) j f e;
@@ -298,7 +356,18 @@ calls-settle s b h cs t =
       kept = λ j e. own j s cs t g ∙ ap (turnedAll (shownIn j s)) e;
     }
 
--- ---- 24
+-- ---- junctions more
+
+pub forty-first : FortyFirst
+unfolding entriesAfter put versionFor
+forty-first s b c t e v n o =
+    let k = call-keeps s b (toPut c) t e in
+    let es : List Entry = settingsIn s in
+    let m : junctions (settingsIn (fileAfter s (toPut c))) ≡ 41
+    = ap junctions (k .holds)
+    ∙ junctions-put (c .junction) (cpBytes (c .cp)) (find 0 (c .junction) es) es (lawful-order (versionIn s) es (good-lawful s (k .had)))
+    ∙ ap₂ (λ (x : Option (List ℕ)) (i : ℕ). cond (there x) 0 1 + i) o n in
+    (k .version ∙ ap₂ versionFor v m, λ j h. ap (shown j) (k .holds) ∙ elsewhere (toPut c) j es h)
 
 -- what is answered where the file is broken
 broken-first : (ts us : List Test) → T (numbered ts) → says 24 ts ≡ false → first (ts ++ (test 22 true ∷ us)) .number ≡ 24 → ⊥
@@ -309,29 +378,44 @@ broken-first ts us t n e = go (eq-zero-or-pos (first ts .number))
     go (inl z) = let q = sym (same-number (first-append ts (test 22 true ∷ us) (none-first ts t z))) ∙ e in omega arith
     go (inr p) = first-says 24 ts (lit< tt) n (sym (same-number (first-left ts (test 22 true ∷ us) p)) ∙ e)
 
-room-there : (s : List ℕ) (j : ℕ) (new old : List ℕ) → isFile s ≡ true → find 0 j (settingsIn s) ≡ some old
-    → few (versionIn s) (put j new (settingsIn s)) ≡ true
-unfolding few put
-room-there s j new old h e =
-    let es : List Entry = settingsIn s in
-    let law = good-lawful s h in
-    let n = junctions-put j new (find 0 j es) es (lawful-order (versionIn s) es law)
-    ∙ ap (λ (o : Option (List ℕ)). cond (there o) 0 1 + junctions es) e in
-    le-leb _ (versionIn s .most) (omega (arith, n, lawful-most (versionIn s) es law))
-
 record-not-24 : (r : Record) → says 24 (recordTests r) ≡ false
 unfolding recordTests rateTests emptyTests emptyTest listFrom
 record-not-24 r = refl
 
-put-not-24 : (s : List ℕ) (c : PutCall) → few (versionIn s) (put (c .junction) (cpBytes (c .cp)) (settingsIn s)) ≡ true
+put-not-24 : (s : List ℕ) (c : PutCall) → few versionTwo (put (c .junction) (cpBytes (c .cp)) (settingsIn s)) ≡ true
     → says 24 (putTests s (c .junction) (c .cp) (length (c .out))) ≡ false
 unfolding putTests recordTests rateTests emptyTests emptyTest listFrom
 put-not-24 s c e = rw e refl
 
-pub no-junction-more : NoJunctionMore
-unfolding putRefusal putTests
-no-junction-more s c cp e n = go (isFile s) refl
+-- a put that makes more junctions than version 2 may hold
+one-more : (s : List ℕ) (j : ℕ) (cp : List ℕ) → isFile s ≡ true → few versionTwo (put j cp (settingsIn s)) ≡ false
+    → (junctions (settingsIn s) ≡ 400) × (find 0 j (settingsIn s) ≡ none)
+unfolding few put
+one-more s j cp h e =
+    let es : List Entry = settingsIn s in
+    let law = good-lawful s h in
+    let most = of-known (λ v. v .most ≤ 400) (omega arith) (omega arith) (versionIn s) (known-in s) in
+    go (find 0 j es) refl (junctions-put j cp (find 0 j es) es (lawful-order (versionIn s) es law))
+    (omega (arith, lawful-most (versionIn s) es law)) (leb-false _ 400 e)
   where
-    go : (b : Bool) → isFile s ≡ b → ⊥
-    go false h = broken-first (recordTests (c .cp)) _ (record-numbered (c .cp)) (record-not-24 (c .cp)) (rw h at n)
-    go true h = first-says 24 _ (lit< tt) (put-not-24 s c (room-there s (c .junction) (cpBytes (c .cp)) cp h e)) n
+    go : (o : Option (List ℕ)) → find 0 j (settingsIn s) ≡ o
+        → junctions (put j cp (settingsIn s)) ≡ cond (there (find 0 j (settingsIn s))) 0 1 + junctions (settingsIn s)
+        → junctions (settingsIn s) ≤ 400 → 400 < junctions (put j cp (settingsIn s))
+        → (junctions (settingsIn s) ≡ 400) × (find 0 j (settingsIn s) ≡ none)
+    go none q n l m = (omega (arith, n ∙ ap (λ (o : Option (List ℕ)). cond (there o) 0 1 + junctions (settingsIn s)) q), q)
+    go (some x) q n l m =
+        let z : ⊥ = omega (arith, n ∙ ap (λ (o : Option (List ℕ)). cond (there o) 0 1 + junctions (settingsIn s)) q) in
+        absurd z
+
+pub four-hundred-first : FourHundredFirst
+unfolding putRefusal putTests
+four-hundred-first s c n = go (isFile s) refl
+  where
+    full : isFile s ≡ true → (b : Bool) → few versionTwo (put (c .junction) (cpBytes (c .cp)) (settingsIn s)) ≡ b
+        → (junctions (settingsIn s) ≡ 400) × (shownIn (c .junction) s .current ≡ none)
+    full h true e = absurd (first-says 24 _ (lit< tt) (put-not-24 s c e) n)
+    full h false e = one-more s (c .junction) (cpBytes (c .cp)) h e
+
+    go : (b : Bool) → isFile s ≡ b → (junctions (settingsIn s) ≡ 400) × (shownIn (c .junction) s .current ≡ none)
+    go false h = absurd (broken-first (recordTests (c .cp)) _ (record-numbered (c .cp)) (record-not-24 (c .cp)) (rw h at n))
+    go true h = full h (few versionTwo (put (c .junction) (cpBytes (c .cp)) (settingsIn s))) refl

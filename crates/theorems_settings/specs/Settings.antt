@@ -1,7 +1,8 @@
--- Document 02, A.7: a settings file is the bytes of its entries, a put and a going back write such a file, and 'After any puts and goings
--- back a look-up shows the setting last put or gone back to.' Assumes nothing.
+-- Document 02, A.7 and A.9: a settings file, of either version, is the bytes of its entries, a put and a going back write such a file, and
+-- 'After any puts and goings back a look-up shows the setting last put or gone back to.' Assumes nothing.
 use mathlib.Core.Path.{_≡_}
-use Prim.Native.Nat.{ℕ, _<_, _≤_}
+use mathlib.Core.Logic.{_⊎_}
+use Prim.Native.Nat.{ℕ, _+_, _*_, _<_, _≤_}
 use mathlib.Core.Bool.{Bool, true, cond}
 use mathlib.Core.List.{List, [], _∷_, _++_}
 use mathlib.Core.Option.{none, some}
@@ -11,8 +12,8 @@ use Rattle.standard.specs.Lists.{after}
 use Rattle.standard.specs.First.{Answer, bare}
 use Rattle.standard.specs.Bits.{bitAt}
 use Rattle.standard.specs.Cp.{cpBytes, recordIn}
-use Rattle.standard.specs.Settings.{versionOne, versionIn, Entry, fileOf, settingsIn, Shown, shown, afterPut, afterBack, put, back, lawful}
-use Rattle.standard.specs.Settings.{isFile}
+use Rattle.standard.specs.Settings.{versionOne, versionTwo, versionIn, versionFor, Entry, fileOf, settingsIn, trailer, Shown, shown}
+use Rattle.standard.specs.Settings.{afterPut, afterBack, put, back, junctions, lawful, isFile}
 use Rattle.standard.specs.Calls.{accepted, PutCall, putRefusal, putLength, putOut, BackCall, backRefusal, backLength, backOut, lookRefusal}
 use Rattle.standard.specs.Calls.{lookRecord}
 use Rattle.standard.specs.declared.Version.{Version}
@@ -36,7 +37,7 @@ Smalls (e ∷ es) = Small e × Smalls es
 
 -- a version that there is
 abbrev pub Known : Version → Type 0
-Known v = v ≡ versionOne
+Known v = (v ≡ versionOne) ⊎ (v ≡ versionTwo)
 
 -- entries that a file can hold
 abbrev pub Entries : Version → List Entry → Type 0
@@ -47,10 +48,11 @@ pub record FileIsEntries : Type 0 where
   pub bytes : (s : List ℕ) → isFile s ≡ true → fileOf (versionIn s) (settingsIn s) ≡ s
   -- and they are entries that a file can hold
   pub entries : (s : List ℕ) → Bytes s → isFile s ≡ true → Entries (versionIn s) (settingsIn s)
-  -- the bytes of such entries are a file that keeps the rules, and it holds them
-  pub file : (v : Version) (es : List Entry) → Entries v es → (isFile (fileOf v es) ≡ true) × (settingsIn (fileOf v es) ≡ es)
-  -- so it is the bytes of no others
-  pub others : (v : Version) (es ds : List Entry) → Entries v es → Entries v ds → fileOf v es ≡ fileOf v ds → es ≡ ds
+  -- the bytes of such entries are a file that keeps the rules, has that version and holds them
+  pub file : (v : Version) (es : List Entry) → Entries v es
+      → (isFile (fileOf v es) ≡ true) × (versionIn (fileOf v es) ≡ v) × (settingsIn (fileOf v es) ≡ es)
+  -- so it is the bytes of no others, in no other version
+  pub others : (v u : Version) (es ds : List Entry) → Entries v es → Entries u ds → fileOf v es ≡ fileOf u ds → (v ≡ u) × (es ≡ ds)
 
 -- ---- a call
 
@@ -92,12 +94,18 @@ unfoldable pub entriesAfter : FileCall → List Entry → List Entry
 entriesAfter (toPut c) es = put (c .junction) (cpBytes (c .cp)) es
 entriesAfter (toGoBack c) es = back (c .junction) es
 
--- an accepted call was handed a file that keeps the rules and leaves one, of the length returned
+-- the most bytes of a file: for each junction two entries, and at most 122 bytes of CP in each
+abbrev pub mostBytes : Version → ℕ
+mostBytes v = (126 + v .start) * (2 * v .most) + trailer v
+
+-- an accepted call was handed a file that keeps the rules and leaves one, of the length returned, of the same version or turned into
+-- version 2 by its junctions
 pub record Kept (s : List ℕ) (c : FileCall) : Type 0 where
   pub had : isFile s ≡ true
   pub file : isFile (fileAfter s c) ≡ true
   pub long : length (fileAfter s c) ≡ lengthBy s c
-  pub most : lengthBy s c ≤ 10244
+  pub version : versionIn (fileAfter s c) ≡ versionFor (versionIn s) (junctions (settingsIn (fileAfter s c)))
+  pub most : lengthBy s c ≤ mostBytes (versionIn (fileAfter s c))
   pub holds : settingsIn (fileAfter s c) ≡ entriesAfter c (settingsIn s)
 
 abbrev pub CallKeeps : Type 0
@@ -136,6 +144,8 @@ Looks s j cp = (accepted (lookRefusal s j) ≡ true) × (lookRecord s j ≡ reco
 pub record Settled (s : List ℕ) (cs : List FileCall) : Type 0 where
   -- the file keeps the rules
   pub file : isFile (fileLeft s cs) ≡ true
+  -- it has its version still, or version 2 once it has more junctions than that may have
+  pub version : versionIn (fileLeft s cs) ≡ versionFor (versionIn s) (junctions (settingsIn (fileLeft s cs)))
   -- a junction shows what the calls that name it made of what it showed, whatever other calls there were between
   pub own : (j : ℕ) → shownIn j (fileLeft s cs) ≡ turnedAll (shownIn j s) (naming j s cs)
   -- a look-up gives the current setting, or 23 where there is none
@@ -158,8 +168,18 @@ pub record Settled (s : List ℕ) (cs : List FileCall) : Type 0 where
 abbrev pub CallsSettle : Type 0
 CallsSettle = (s : List ℕ) → Bytes s → isFile s ≡ true → (cs : List FileCall) → AllTyped cs → Settled s cs
 
--- ---- 24 tells a junction more: a put for one that is there does not get it
+-- ---- junctions more
 
-abbrev pub NoJunctionMore : Type 0
-NoJunctionMore =
-    (s : List ℕ) (c : PutCall) (cp : List ℕ) → shownIn (c .junction) s .current ≡ some cp → putRefusal s c .number ≡ 24 → ⊥
+-- 'a 41st junction turns version 1 into version 2, every setting shown as it was'
+abbrev pub FortyFirst : Type 0
+FortyFirst =
+    (s : List ℕ) → Bytes s → (c : PutCall) → Typed (toPut c) → accepts s (toPut c) ≡ true
+    → versionIn s ≡ versionOne → junctions (settingsIn s) ≡ 40 → shownIn (c .junction) s .current ≡ none
+    → (versionIn (fileAfter s (toPut c)) ≡ versionTwo)
+    × ((j : ℕ) → (c .junction ≡ j → ⊥) → shownIn j (fileAfter s (toPut c)) ≡ shownIn j s)
+
+-- 'Refusal 24 then means a 401st'
+abbrev pub FourHundredFirst : Type 0
+FourHundredFirst =
+    (s : List ℕ) (c : PutCall) → putRefusal s c .number ≡ 24
+    → (junctions (settingsIn s) ≡ 400) × (shownIn (c .junction) s .current ≡ none)

@@ -1,8 +1,8 @@
 // What the words of send, receive and linear ask for.
 use console::Ends;
 use console::fail_name;
+use parts::Number;
 use standard::Law;
-use words::Number;
 
 // The law that a word names.
 pub(crate) enum Named {
@@ -12,8 +12,8 @@ pub(crate) enum Named {
 
 // The law that word k names; says so where it names none.
 pub(crate) fn law_at(e: Ends, words: &[u8], k: usize) -> Named {
-    let word = words::nth_part(words, 0, k);
-    match words::which(b"mu\nulaw\na\nalaw\n", b'\n', word) {
+    let word = parts::nth_part(words, 0, k);
+    match parts::which(b"mu\nulaw\na\nalaw\n", b'\n', word) {
         1 => Named::Is(Law::Mu),
         2 => Named::Is(Law::Mu),
         3 => Named::Is(Law::A),
@@ -80,7 +80,7 @@ fn binary_in(word: &[u8]) -> Number {
     if (word.len() == 0) | !is_binary(word) {
         return Number::None;
     }
-    Number::Is(streams::number_of(word))
+    Number::Is(unaligned::number_of(word))
 }
 
 // The number that a word says, in binary or in decimal.
@@ -88,7 +88,7 @@ fn number_of(word: &[u8], binary: bool) -> Number {
     if binary {
         return binary_in(word);
     }
-    words::number_in(word)
+    parts::number_in(word)
 }
 
 // With the number that a word says, where it says one.
@@ -108,7 +108,7 @@ fn with_number(a: Asked, word: &[u8], binary: bool) -> Asked {
 
 // The bit of a word; 0 where it is none of those that are known.
 fn bit_of(word: &[u8]) -> u32 {
-    match words::which(
+    match parts::which(
         b"exact\ncold\nprogress\ncontrol\ncleardown\nretrain\nstart\n",
         b'\n',
         word,
@@ -138,14 +138,14 @@ fn with_word(a: Asked, word: &[u8], binary: bool) -> Asked {
 
 // What the words from word k on ask for; those of digits are numbers in binary or in decimal.
 pub(crate) fn asked_from(words: &[u8], k: usize, binary: bool) -> Asked {
-    let count = words::part_count(words, 0);
+    let count = parts::part_count(words, 0);
     let mut a = Asked {
         words: 0,
         number: u64::MAX,
     };
     let mut i = k;
     while i < count {
-        a = with_word(a, words::nth_part(words, 0, i), binary);
+        a = with_word(a, parts::nth_part(words, 0, i), binary);
         i += 1;
     }
     a

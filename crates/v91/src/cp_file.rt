@@ -162,5 +162,5 @@ pub(crate) fn load_file(e: Ends, name: &[u8]) -> Loaded {
 
 // Reads the CP file that word 1 names.
 pub(crate) fn load_cp(e: Ends, words: &[u8]) -> Loaded {
-    load_file(e, words::nth_part(words, 0, 1))
+    load_file(e, parts::nth_part(words, 0, 1))
 }

@@ -40,7 +40,8 @@ fn help(e: Ends) -> bool {
   v91 plan K LAW SPACING CEILING        the mask for K that keeps SPACING with the least sum of squares, and a picture of it
   v91 plan K LAW SPACING CEILING svg > FILE, or cp > FILE: the picture as a drawing, or the CP with this mask
   v91 flip CPFILE                       which data bits change where one octet comes with the other sign, for each interval
-  v91 settings FILE new                 a settings file, which keeps the CPs of up to 40 junctions; FILE must not be there yet
+  v91 settings FILE new                 a settings file, which keeps the CPs of up to 400 junctions; FILE must not be there yet
+  v91 settings FILE new 2               the same, but of version 2 from the start; one of version 1 becomes that with its 41st junction
   v91 settings FILE list                a table of its junctions
   v91 settings FILE put JUNCTION CPFILE the CP as the setting of a junction; the one before is kept
   v91 settings FILE back JUNCTION       the setting of a junction and the one before it exchanged
@@ -63,7 +64,7 @@ fn unknown(e: Ends, words: &[u8]) -> bool {
     fail_name(
         e,
         b"there is no command @; v91 help says what there are",
-        words::nth_part(words, 0, 0),
+        parts::nth_part(words, 0, 0),
     )
 }
 
@@ -71,7 +72,7 @@ fn unknown(e: Ends, words: &[u8]) -> bool {
 pub(crate) fn command_of(words: &[u8]) -> usize {
     let names =
         b"cp\nstart\nsend\nreceive\nlinear\ndil\nplan\nflip\ndemo\nsettings\nhelp\n--help\n-h\n--version\nrun\n";
-    words::which(names, b'\n', words::nth_part(words, 0, 0))
+    parts::which(names, b'\n', parts::nth_part(words, 0, 0))
 }
 
 // Runs a command, and returns whether all of it was done.
@@ -90,7 +91,7 @@ pub(crate) fn run_command(e: Ends, words: &[u8], command: usize) -> bool {
         11 => help(e),
         12 => help(e),
         13 => help(e),
-        14 => write(e, b"v91 7\n"),
+        14 => write(e, b"v91 8\n"),
         _ => unknown(e, words),
     }
 }

@@ -75,11 +75,11 @@ fn write_cp(e: Ends) -> bool {
 
 // Shows the example, or writes its CP where word 1 is `cp`.
 pub(crate) fn demo(e: Ends, words: &[u8]) -> bool {
-    if words::part_count(words, 0) == 1 {
+    if parts::part_count(words, 0) == 1 {
         return show(e);
     }
-    let word = words::nth_part(words, 0, 1);
-    if words::which(b"cp\n", b'\n', word) == 1 {
+    let word = parts::nth_part(words, 0, 1);
+    if parts::which(b"cp\n", b'\n', word) == 1 {
         return write_cp(e);
     }
     fail_name(e, b"after demo there may be the word cp, not @", word)

@@ -8,16 +8,16 @@ use console::fail_name;
 use console::tell;
 use console::write;
 use constellation::Mask;
+use parts::Number;
 use picture::Shown;
 use standard::Law;
 use standard::Planned;
-use words::Number;
 ghost use Prim.Native.Nat.{_≤_};
 
 // The number that word k says; says what is wanted where it says none.
 fn number_at(e: Ends, words: &[u8], k: usize, wanted: &[u8]) -> Number {
-    let word = words::nth_part(words, 0, k);
-    let number = words::number_in(word);
+    let word = parts::nth_part(words, 0, k);
+    let number = parts::number_in(word);
     let Number::Is(n) = number else {
         fail_name(e, wanted, word);
         return Number::None;
@@ -27,8 +27,8 @@ fn number_at(e: Ends, words: &[u8], k: usize, wanted: &[u8]) -> Number {
 
 // The ceiling that word k says. No sum has more than 18 digits, so any longer number is as good as the largest.
 fn ceiling_at(e: Ends, words: &[u8], k: usize) -> Number {
-    let word = words::nth_part(words, 0, k);
-    if words::all_digits(word) & (18 < word.len()) {
+    let word = parts::nth_part(words, 0, k);
+    if parts::all_digits(word) & (18 < word.len()) {
         return Number::Is(u64::MAX);
     }
     number_at(e, words, k, b"CEILING is a number, not @")
@@ -36,11 +36,11 @@ fn ceiling_at(e: Ends, words: &[u8], k: usize) -> Number {
 
 // The form that word 5 asks for: 1 for svg, 2 for cp, 3 where there is no such word; says so and returns 0 where it asks for another.
 fn form_at(e: Ends, words: &[u8]) -> usize {
-    if words::part_count(words, 0) < 6 {
+    if parts::part_count(words, 0) < 6 {
         return 3;
     }
-    let word = words::nth_part(words, 0, 5);
-    let form = words::which(b"svg\ncp\n", b'\n', word);
+    let word = parts::nth_part(words, 0, 5);
+    let form = parts::which(b"svg\ncp\n", b'\n', word);
     if form == 0 {
         fail_name(
             e,
@@ -55,7 +55,7 @@ fn form_at(e: Ends, words: &[u8]) -> usize {
 fn refuse_spacing(e: Ends, k: u32, law: Law, spacing: u32) -> bool
     requires { ⌜ k ≤ 42 ⌝ }
 {
-    let points = plan::points_for(k);
+    let points = choosing::points_for(k);
     let largest = plan::largest_spacing(k, law, u64::MAX);
     fail_choice(
         e,
@@ -220,6 +220,6 @@ pub(crate) fn plan(e: Ends, words: &[u8]) -> bool {
         spacing,
         ceiling,
         form,
-        words::nth_part(words, 0, 4),
+        parts::nth_part(words, 0, 4),
     )
 }

@@ -48,7 +48,7 @@ fn place_of(words: &[u8], number: usize) -> usize
     if number == 0 {
         return words.len();
     }
-    let part = words::part_at(words, 0, number - 1);
+    let part = parts::part_at(words, 0, number - 1);
     part.start
 }
 
@@ -77,7 +77,7 @@ fn opened(e: Ends, words: &[u8], number: usize, reads: bool, otherwise: i32) -> 
     if number == 0 {
         return otherwise;
     }
-    let word = words::nth_part(words, 0, number);
+    let word = parts::nth_part(words, 0, number);
     let fd = open_file(word, reads);
     if fd < 0 {
         fail_system(e, os::errno(), b"cannot open @: ", word);
@@ -94,8 +94,8 @@ fn close(number: usize, fd: i32) {
 
 // Runs the command in the words of a line, and returns whether all of it was done.
 fn run_words(e: Ends, words: &[u8]) -> bool {
-    let less = words::which(words, 0, b"<");
-    let more = words::which(words, 0, b">");
+    let less = parts::which(words, 0, b"<");
+    let more = parts::which(words, 0, b">");
     let end = command_end(words, less, more);
     let between = Ends {
         input: opened(e, words, less, true, e.input),
@@ -138,11 +138,11 @@ fn run_line(e: Ends, line: &[u8]) -> bool {
 
 // Runs the commands of a text, one a line, and returns whether all of them were done.
 fn run_lines(e: Ends, text: &[u8]) -> bool {
-    let count = words::part_count(text, b'\n');
+    let count = parts::part_count(text, b'\n');
     let mut done = true;
     let mut k = 0;
     while k < count {
-        done = run_line(e, words::nth_part(text, b'\n', k)) & done;
+        done = run_line(e, parts::nth_part(text, b'\n', k)) & done;
         k += 1;
     }
     done
@@ -165,7 +165,7 @@ fn end_line(text: &mut [u8], n: usize) -> usize
 
 // Runs the commands of the file that word 1 names.
 pub(crate) fn run(e: Ends, words: &[u8]) -> bool {
-    let word = words::nth_part(words, 0, 1);
+    let word = parts::nth_part(words, 0, 1);
     let mut text = [0u8; 32768];
     let got = console::fill_from(e, word, &mut text);
     if got.error != 0 {

@@ -123,8 +123,8 @@ fn answer_call(call: &[u8], reply: &mut [u8]) -> usize
 
 // Answers call after call.
 fn main() {
-    let mut bytes = [0u8; 16384];
-    let mut reply = [0u8; 16384];
+    let mut bytes = [0u8; 131072];
+    let mut reply = [0u8; 131072];
     let mut call = calls::first(&mut bytes);
     while call.left > 0 {
         let n = call.length;

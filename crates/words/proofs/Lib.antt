@@ -1,5 +1,2 @@
 pub mod Adding
-pub mod Digits
 pub mod Pieces
-pub mod Splitting
-pub mod Turns

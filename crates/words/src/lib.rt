@@ -1,18 +1,9 @@
-// What a program says and is told: messages from templates, the columns of a table, the words of a command, numbers in decimal. Nothing is
-// read or written here.
+// What a program says: messages from templates, the columns of a table, numbers in decimal. Nothing is read or written here.
 mod columns;
-mod parts;
 
 pub use columns::add_left;
 pub use columns::add_right;
-pub use parts::Number;
-pub use parts::Part;
-pub use parts::all_digits;
-pub use parts::nth_part;
-pub use parts::number_in;
-pub use parts::part_at;
-pub use parts::part_count;
-pub use parts::which;
+use parts::nth_part;
 ghost use mathlib.Core.Path.{_≡_};
 ghost use mathlib.Core.Bool.{cond};
 ghost use mathlib.Core.List.{[], _∷_, map};
@@ -20,7 +11,7 @@ ghost use Prim.Native.Nat.{_-_, _≤_};
 ghost use lib.Dec.{eqb};
 ghost use lib.ListN.{length, getD};
 ghost use Rattle.words.specs.Message.{shown as Message·shown, cleaned as Message·cleaned};
-ghost use Rattle.words.specs.Parts.{partAt};
+ghost use Rattle.parts.specs.Parts.{partAt};
 ghost use Rattle.words.specs.Message.{decimal, piece, message, added, placeAfter, Added};
 
 // A character of a name; a question mark for a control character.

@@ -7,8 +7,8 @@ use borrow.Author.Needs.{needs}
 use Rattle.standard.specs.Refusals.{rateOrSpacingOutside}
 use Rattle.standard.specs.declared.Refusal.the-variants.{RateOrSpacingOutside, NoMask, SumExceedsCeiling}
 use Rattle.standard.proofs.Plan.{inside-le}
-use Rattle.plan.specs.Choosing.{Before}
-use Rattle.plan.proofs.Choosing.{begun}
+use Rattle.choosing.specs.Choosing.{Before}
+use Rattle.choosing.proofs.Choosing.{begun}
 use Rattle.plan.proofs.Answer.{nothing, outside, too-few, above, given}
 use Rattle.plan.proofs.plan.Statement.{statement}
 use Rattle.plan.proofs.plan.Tie as tie

@@ -1,7 +1,7 @@
 -- Four runs of entries, one behind the other. Assumes nothing.
 use native.Mathlib.Omega.{arith}
 use borrow.Author.Needs.{needs}
-use Rattle.rewriting.proofs.Joining.{room-first, room-second, room-third, room-fourth, all-laid}
+use Rattle.rewriting.proofs.Around.{room-first, room-second, room-third, room-fourth, all-laid}
 use Rattle.rewriting.proofs.put_entries.Statement.{statement}
 use Rattle.rewriting.proofs.put_entries.Tie as tie
 

@@ -9,7 +9,7 @@ use Rattle.theorems_settings.proofs.FileBack.{length-file}
 use Rattle.entries.specs.Entries.{sizes}
 use Rattle.entries.proofs.Sums.{length-bytes}
 use Rattle.rewriting.specs.Rewriting.{ownEntries, around, rewritten}
-use Rattle.rewriting.proofs.Joining.{lays-same}
+use Rattle.laying.proofs.Joining.{lays-same}
 use Rattle.rewriting.proofs.Afresh.{front-inside, upto-inside, place-is, rest-inside, body-is, count-is, short-written, fits-written}
 use Rattle.rewriting.proofs.written.Statement.{statement}
 use Rattle.rewriting.proofs.written.Tie as tie

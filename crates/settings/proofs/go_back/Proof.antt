@@ -10,7 +10,7 @@ use Rattle.standard.specs.Refusals.{outcomeAnswer}
 use Rattle.standard.specs.Settings.{backFile, isFile}
 use Rattle.standard.specs.Calls.{accepted, backCall, backRefusal, backLength, backOut}
 use Rattle.rewriting.specs.Rewriting.{writtenRefusal}
-use Rattle.settings.proofs.Opening.{inside-first, slice-short}
+use Rattle.places.proofs.Opening.{inside-first, slice-short}
 use Rattle.settings.proofs.Finding.{there-is}
 use Rattle.settings.proofs.Answers.{refused-writes, same-writes, previous-found, back-is, back-broken, back-missing, back-past}
 use Rattle.settings.proofs.go_back.Statement.{statement}

@@ -8,7 +8,7 @@ use borrow.Author.Tests.{not-true, not-false, le-ltb}
 use lib.ListN.{take, drop}
 use Rattle.standard.specs.Refusals.{outcomeAnswer}
 use Rattle.standard.specs.Settings.{bitCountOf, isFile}
-use Rattle.settings.proofs.Opening.{inside-first, slice-length}
+use Rattle.places.proofs.Opening.{inside-first, slice-length}
 use Rattle.settings.proofs.Finding.{there-is}
 use Rattle.settings.proofs.Answers.{current-found, current-shown, look-broken, look-missing, look-done}
 use Rattle.settings.proofs.look_up.Statement.{statement}

@@ -7,7 +7,7 @@ use Rattle.vectors_settings.proofs.main.Statement.{statement}
 use Rattle.vectors_settings.proofs.main.Tie as tie
 
 abbrev Inv-loop : tie.InvT-loop
-Inv-loop bytes₀ reply₀ call₀ bytes reply call = (length bytes ≡ 16384) × (length reply ≡ 16384) × (call .length ≤ 16384)
+Inv-loop bytes₀ reply₀ call₀ bytes reply call = (length bytes ≡ 131072) × (length reply ≡ 131072) × (call .length ≤ 131072)
 
 abbrev μ-loop : tie.MeasureT-loop
 μ-loop bytes₀ reply₀ call₀ bytes reply call = call .left

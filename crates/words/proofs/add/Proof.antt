@@ -6,7 +6,7 @@ use native.Mathlib.Omega.{arith}
 use lib.ListN.{length, drop, length-set, drop-of-length-le}
 use Rattle.words.specs.Message.{cleaned}
 use Rattle.words.proofs.Adding.{Left, added-none, added-full, added-first}
-use Rattle.words.proofs.Turns.{left-at}
+use Rattle.parts.proofs.Turns.{left-at}
 use Rattle.words.proofs.add.Statement.{statement}
 use Rattle.words.proofs.add.Tie as tie
 

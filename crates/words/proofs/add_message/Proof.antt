@@ -7,7 +7,7 @@ use lib.ListN.{length, getD, drop, drop-of-length-le}
 use Rattle.standard.proofs.Bits.{weight-lt}
 use Rattle.words.specs.Message.{piece, messageFrom}
 use Rattle.words.proofs.Adding.{Left, added-none, added-both}
-use Rattle.words.proofs.Turns.{left-at}
+use Rattle.parts.proofs.Turns.{left-at}
 use Rattle.words.proofs.add_message.Statement.{statement}
 use Rattle.words.proofs.add_message.Tie as tie
 
