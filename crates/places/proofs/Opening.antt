@@ -1,7 +1,7 @@
 -- What is found in a file that keeps the rules. Assumes nothing.
 use mathlib.Core.Path.{_≡_, sym, ap, subst, _∙_}
 use Prim.Native.Nat.{ℕ, zero, suc, _+_, _-_, _*_, _^_, _<_, _≤_}
-use mathlib.Core.Bool.{true}
+use mathlib.Core.Bool.{Bool, true, false}
 use mathlib.Core.List.{List}
 use native.Mathlib.Omega.{arith}
 use borrow.Author.Tests.{eqb-true, leb-true, le-leb}
@@ -17,7 +17,8 @@ use Rattle.theorems_settings.proofs.Entries.{placed-next}
 use Rattle.entries.specs.Entries.{inside, placeAfter, sizes}
 use Rattle.entries.proofs.Sums.{inside-split, place-size}
 use Rattle.entries.proofs.Inside.{inside-next}
-use Rattle.places.specs.Finding.{FoundIn}
+use Rattle.places.specs.Finding.{FoundIn, partAt, cpPlace}
+use Rattle.places.specs.declared.Part.{Part}
 use Rattle.rules.proofs.FileIs.{two-bytes}
 
 layout-inside : (w : ℕ) (s : List ℕ) (end last n at before : ℕ) → end ≤ length s → layout w s end last n at before ≡ true
@@ -95,6 +96,12 @@ module _ (w : ℕ) (s : List ℕ) (k : ℕ) (h : inside w s (length s) (k + 1) 0
       subst (λ (p : ℕ). p + 4 + getD s (p + 3) 0 + w ≤ length s) (sym (here-is at e))
       (inside-next w s (length s) 0 (placeAfter w s k 0) (before-inside .1))
 
+  pub here-place : (has : Bool) (at len : ℕ) → has ≡ true → at ≡ sizes w (entriesAt w s 0 k) → len ≡ getD s (at + 3) 0
+      → _≡_ {A = Part} (record { from = at + 4; to = at + 4 + len }) (cpPlace w s k has)
+  unfolding cpPlace
+  here-place has at len t e el =
+      rw t (ap {B = Part} (λ (m : ℕ). record { from = at + 4; to = at + 4 + m }) el ∙ ap (partAt s) (here-is at e))
+
   pub here-cp : (at to : ℕ) → at ≡ sizes w (entriesAt w s 0 k) → to ≡ at + 4 + getD s (at + 3) 0
       → take (to - (at + 4)) (drop (at + 4) s) ≡ entryAt s (placeAfter w s k 0) .cp
   unfolding entryAt
@@ -114,3 +121,7 @@ slice-short s from to a b c =
 
 pub slice-length : (s : List ℕ) (from to : ℕ) → from ≤ to → to ≤ length s → length (take (to - from) (drop from s)) ≡ to - from
 slice-length s from to a b = length-take-le (to - from) (drop from s) (simp length-drop (omega arith))
+
+pub no-place : (w : ℕ) (s : List ℕ) (k : ℕ) (has : Bool) → has ≡ false → _≡_ {A = Part} (record { from = 0; to = 0 }) (cpPlace w s k has)
+unfolding cpPlace
+no-place w s k has e = rw e

@@ -11,7 +11,7 @@ ghost use Prim.Native.Nat.{_+_, _-_, _<_, _≤_};
 ghost use lib.ListN.{length, take, drop};
 ghost use Rattle.standard.specs.Settings.{entryAt, isFile};
 ghost use Rattle.entries.specs.Entries.{inside, placeAfter};
-ghost use Rattle.places.specs.Finding.{FoundIn};
+ghost use Rattle.places.specs.Finding.{FoundIn, cpPlace};
 
 // What a call needs to know of a file: its version, the number of its entries, and how many of them stand before those of a junction and up
 // to their end.
@@ -49,7 +49,8 @@ pub struct Part {
 // The place of the CP of entry number k, or of no byte.
 pub fn cp_place(s: &[u8], w: usize, k: usize, has: bool) -> Part
     requires { ⌜ (has ≡ true → inside w (now s) (length (now s)) (k + 1) 0 ≡ true) × (k < 65536) × (w ≤ 4) ⌝ }
-    ensures { λ r. ⌜ (r .from ≤ r .to) × (r .to ≤ length (now (s .entry))) × (r .to < r .from + 256) ⌝ }
+    ensures { λ r. ⌜ (r .from ≤ r .to) × (r .to ≤ length (now (s .entry))) × (r .to < r .from + 256)
+        × (r ≡ cpPlace w (now (s .entry)) k has) ⌝ }
     ensures { λ r. ⌜ (has ≡ true → take (r .to - r .from) (drop (r .from) (now (s .entry)))
         ≡ entryAt (now (s .entry)) (placeAfter w (now (s .entry)) k 0) .cp) ⌝ }
 {

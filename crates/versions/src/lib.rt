@@ -2,9 +2,10 @@
 use standard::Version;
 ghost use mathlib.Core.Path.{_≡_};
 ghost use mathlib.Core.Bool.{true, cond};
-ghost use Prim.Native.Nat.{_≤_};
-ghost use lib.ListN.{take};
-ghost use Rattle.standard.specs.Settings.{versionOne, versionTwo, versionIn, versionFor, isFile};
+ghost use mathlib.Core.List.{[], _++_};
+ghost use Prim.Native.Nat.{_-_, _≤_};
+ghost use lib.ListN.{take, replicate};
+ghost use Rattle.standard.specs.Settings.{versionOne, versionTwo, versionIn, versionFor, fileOf, trailer, isFile};
 
 // Version 2.
 pub fn version_two() -> Version
@@ -47,7 +48,7 @@ pub fn version_for(v: Version, junctions: usize) -> Version
     version_two()
 }
 
-// A settings file with no junction: the first `length` of these bytes.
+// A settings file with no junction: the first `length` of these bytes, and zeros.
 pub struct Empty {
     pub bytes: [u8; 7],
     pub length: usize,
@@ -55,8 +56,9 @@ pub struct Empty {
 
 // The settings file with no junction, of version 2 or 1: the number of its entries, the start of the last one, the version.
 pub fn empty_file(two: bool) -> Empty
-    ensures { λ s. ⌜ (let file = take (s .length) (s .bytes) in
-        (isFile file ≡ true) × (versionIn file ≡ cond two versionTwo versionOne)) ⌝ }
+    ensures { λ s. ⌜ (let v = cond two versionTwo versionOne in
+        (s .length ≡ trailer v) × (s .bytes ≡ fileOf v [] ++ replicate (7 - trailer v) 0)
+        × (isFile (take (s .length) (s .bytes)) ≡ true)) ⌝ }
 {
     if two {
         return Empty {

@@ -103,8 +103,11 @@ add-put-trailer-3 c =
 
 put-trailer-requires : tie.Need-put-trailer-requires
 put-trailer-requires c κs =
-    let p = c .before .before .before .before .before .before .before .before .before .before .before .before .before .before .before .pre in
-    (omega (arith, c .before .before .before .before .before .before .if1 .left, c .before .before .before .before .put-entries .kept .0), p .1 .1 .0 .0, p .1 .1 .0 .1)
+    let p = c .before .before .before .before .before .before .before .before .before .before .before .before .before .before .before .pre in (
+      omega (arith, c .before .before .before .before .before .before .if1 .left, c .before .before .before .before .put-entries .kept .0),
+      p .1 .1 .0 .0,
+      p .1 .1 .0 .1,
+    )
 
 returns-2 : tie.Need-returns-2
 returns-2 c =
