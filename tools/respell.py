@@ -17,8 +17,9 @@ TOKEN = re.compile(r"[^\s(){}\[\];,.:·\"'`@λ∣|]+(?:'*)")
 DEFINED = re.compile(r"^ *(?:pub |abbrev |unfoldable )*([^\s(){};:,.=]+) : ", re.M)
 LIBRARY = {"length", "take", "drop", "append", "map", "reverse", "replicate", "get_or", "set", "sum", "lt", "le", "eq", "ne", "zero", "suc",
            "add", "sub", "mul", "div", "mod", "pow", "xor", "and", "or", "not", "shl", "shr", "cons", "nil"}
-# What would fall together with a name that is there already, or read badly.
-OTHERWISE = {}
+# Of two names that would fall together the definition has the plain one, and the lemma of that name gives way.
+OTHERWISE = {"signAt": "sign_at", "sign_at": "sign_at_lem", "oneFewer": "one_fewer", "one_fewer": "one_fewer_lem",
+             "sameBits": "same_bits", "tooFew": "too_few"}
 
 
 def texts(*endings):
@@ -83,7 +84,10 @@ def names():
     for name in sorted(every, key=lambda n: ("-" in n, n)):
         if not re.match("[a-z]", name) or name in library:
             continue
-        said = OTHERWISE.get(name) or respelled(name, definitions)
+        if name in OTHERWISE:
+            become[name] = OTHERWISE[name]
+            continue
+        said = respelled(name, definitions)
         if said != name:
             # a lemma that would have its function's name
             become[name] = said + "_lem" if said in taken else said
