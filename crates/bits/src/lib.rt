@@ -1,4 +1,6 @@
 // Bits in byte buffers and in numbers: bit n of a buffer is in byte n / 8, with weight 2 ^ (n % 8), and fields have their lowest bit first.
+#![tactic(auto)]
+
 ghost use Rattle.std.specs.Prelude.{◌≡◌, ◌+◌, ◌*◌, ◌/◌, ◌%◌, ◌^◌, ◌<◌, ◌≤◌, length};
 ghost use Rattle.standard.specs.Bits.{weight, bit, bit_at, field, bytes_for};
 ghost use Rattle.bits.specs.PutField.{word_with, put_field, Holds, holding, filling};
@@ -176,7 +178,7 @@ pub fn put_field(bytes: &mut [u8], at: usize, width: usize, value: u64)
 
 // Bits poured into bytes, the earliest first: `count` of them, fewer than 64, are held until they fill the eight bytes
 // from byte `to` on.
-#[derive(Drop)]
+#[derive(Clone, Copy)]
 pub struct Pouring {
     pub to: usize,
     pub count: usize,

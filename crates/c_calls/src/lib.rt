@@ -1,5 +1,7 @@
 // What the functions of the C interface have in common: a law from a flag, the lengths of a record and a line state, and the end of a call of
 // frames.
+#![tactic(auto)]
+
 ghost use Rattle.std.specs.Prelude.{◌≡◌, ◌≤◌, true, ◌||◌, ltb, length};
 ghost use Rattle.standard.specs.Refusals.{outcome_answer};
 ghost use Rattle.standard.specs.Calls.{over};

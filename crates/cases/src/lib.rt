@@ -1,4 +1,6 @@
 // What the calls of the vectors have in common: a law and a length in bytes, a buffer filled before a call, and a refusal in a reply.
+#![tactic(auto)]
+
 ghost use Rattle.std.specs.Prelude.{◌≡◌, ◌+◌, ◌*◌, ◌<◌, ◌≤◌, length};
 ghost use Rattle.standard.specs.Lists.{list_from};
 ghost use Rattle.standard.specs.Refusals.{outcome_answer};

@@ -1,4 +1,6 @@
 // The control channel, frame by frame: which frame is a control frame, the six bits that it sends, and what is kept of those received.
+#![tactic(auto)]
+
 ghost use Rattle.std.specs.Prelude.{◌≡◌, cond, not, ◌&&◌, ◌||◌, ◌++◌, ◌+◌, ◌*◌, ◌/◌, ◌%◌, ◌^◌, ◌<◌, length};
 ghost use Rattle.standard.specs.Bits.{bit_at, bits_in, field, bytes_of, nth, bits_of};
 ghost use Rattle.standard.specs.Control.{sequence_bytes};

@@ -1,4 +1,6 @@
 // The points of a mask: how many a rate needs, and the lowest Ucodes that keep a spacing, with the sum of their squared linear values.
+#![tactic(auto)]
+
 ghost use Rattle.std.specs.Prelude.{◌≡◌, ℕ, ◌+◌, ◌*◌, ◌^◌, ◌<◌, ◌≤◌};
 ghost use Rattle.standard.specs.Bits.{weight, field};
 ghost use Rattle.standard.specs.Plan.{takes as Plan·takes};
@@ -31,7 +33,7 @@ pub fn points_for(k: u32) -> u32
 
 // A choice of points on its way up the Ucodes: the bits of those taken, the least value that can be taken, how many points are still
 // wanted, and the sum of squares of all taken.
-#[derive(Drop)]
+#[derive(Clone, Copy)]
 pub struct Chosen {
     pub bits: u64,
     pub floor: u32,

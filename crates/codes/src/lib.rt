@@ -1,4 +1,6 @@
 // An outcome in one number, as interfaces hand it out.
+#![tactic(auto)]
+
 ghost use Rattle.std.specs.Prelude.{◌≡◌};
 ghost use Rattle.standard.specs.Refusals.{refusal_answer, outcome_answer};
 ghost use Rattle.codes.specs.Coded.{coded};

@@ -29,7 +29,7 @@ pub fn reciprocals_of(sizes: [u64; 6]) -> [u64; 6]
 }
 
 // A number divided by a size: the label that it gives, and what is left.
-#[derive(Drop)]
+#[derive(Clone, Copy)]
 struct Divided {
     label: u64,
     left: u64,

@@ -8,7 +8,7 @@ ghost use Rattle.coding.specs.Past.{turned, Scrambled};
 use bits::bit_of;
 
 // Bits that passed the scrambler or the descrambler, and the past after them.
-#[derive(Drop)]
+#[derive(Clone, Copy)]
 pub struct Passed {
     pub past: u32,
     pub bits: u64,

@@ -1,23 +1,30 @@
 // What a program reads, writes and says, and what it says where that fails. What is read and written no contract can tell.
+#![tactic(auto)]
+
 ghost use Rattle.std.specs.Prelude.{◌≡◌, ◌+◌, ◌%◌, ◌^◌, ◌≤◌, true, false, ◌&&◌, length, nat_le};
+ghost use Rattle.std.specs.Io.{ReadsAtMost};
 ghost use Rattle.parts.specs.Parts.{part_count};
 ghost use Rattle.console.specs.Trouble.{is_well, is_over};
 
+use std::env::{Env, FillError};
+use std::fs;
+use std::fs::File;
+use std::io::{Error, ErrorKind, IsTerminal, Print, Read, Write};
 use std::num::wrapping_add_u64;
+use std::time::Clock;
 use words::{add_choice, add_message, add_numbers};
 
 // Puts argument i into the text from place `at` on, and a 0 behind it, and returns the place after it; the text's end where there is no
 // room.
-fn take_word(text: &mut [u8], at: usize, i: usize) -> usize
+fn take_word(rt: HostRuntime, text: &mut [u8], at: usize, i: usize) -> usize
     ensures { result ≤ length text.old }
 {
     if text.len() <= at {
         return text.len();
     }
-    let n = os::arg(i, &mut text[at..]);
-    if os::errno() != 0 {
+    let Ok(n) = rt.arg(i, &mut text[at..]) else {
         return text.len();
-    }
+    };
     let end = at + n;
     if text.len() <= end {
         return text.len();
@@ -26,57 +33,140 @@ fn take_word(text: &mut [u8], at: usize, i: usize) -> usize
     end + 1
 }
 
+// Whether there is an argument i.
+fn has_word(rt: HostRuntime, i: usize) -> bool {
+    let mut text = [0u8; 1];
+    match rt.arg(i, &mut text) {
+        Err(FillError::NotPresent) => false,
+        _ => true,
+    }
+}
+
 // Puts the words of the command line into the text, a 0 behind each, and returns the place after them; the text's end where there is no
 // room.
-pub fn take_words(text: &mut [u8]) -> usize
+pub fn take_words(rt: HostRuntime, text: &mut [u8]) -> usize
     ensures { result ≤ length text.old }
 {
-    let count = os::arg_count();
     let mut at = 0;
     let mut i = 1;
-    while i < count {
-        at = take_word(text, at, i);
+    while i < usize::MAX && has_word(rt, i) {
+        at = take_word(rt, text, at, i);
         i += 1;
     }
     at
 }
 
-// The descriptors that a command reads, writes and says things on, and whether it shows how far it is.
-#[derive(Drop)]
-pub struct Ends {
-    pub input: i32,
-    pub output: i32,
-    pub said: i32,
+// What a command reads from: standard input, or a file that was opened for it.
+#[derive(Clone, Copy)]
+pub enum Source<'a> {
+    Standard,
+    Opened(&'a File),
+}
+
+// What a command writes to or says things on: standard output, standard error, or a file that was opened for it.
+#[derive(Clone, Copy)]
+pub enum Sink<'a> {
+    Output,
+    Said,
+    Opened(&'a File),
+}
+
+// The system, what a command reads, writes and says things on, and whether it shows how far it is.
+#[derive(Clone, Copy)]
+pub struct Ends<'a> {
+    pub rt: HostRuntime,
+    pub input: Source<'a>,
+    pub output: Sink<'a>,
+    pub said: Sink<'a>,
     pub shows: bool,
 }
 
+// The standard streams; how far a command is it shows where standard error is a terminal.
+pub fn standard_ends<'a>(rt: HostRuntime) -> Ends<'a> {
+    Ends {
+        rt,
+        input: Source::Standard,
+        output: Sink::Output,
+        said: Sink::Said,
+        shows: rt.stderr().is_terminal(),
+    }
+}
+
+// The number of an error: the system's own. Where the call did not come to the system it is EINVAL for a name that no file can have, and
+// EIO else.
+fn number_of(error: Error) -> i32 {
+    if let Some(number) = error.raw_os_error() {
+        return number;
+    }
+    if error.kind() == ErrorKind::InvalidInput {
+        return 22;
+    }
+    5
+}
+
+// EILSEQ, the number for a name that is not text in UTF-8, in which alone files are named to the system.
+const NOT_TEXT: i32 = 84;
+
+// 0 where a call of the system did what was asked of it, else the number of its error.
+pub fn number_in(done: Result<(), Error>) -> i32 {
+    match done {
+        Ok(()) => 0,
+        Err(error) => number_of(error),
+    }
+}
+
+// Writes bytes to a file.
+fn write_to(file: &File, bytes: &[u8]) -> Result<(), Error> {
+    let mut output = file;
+    Write::write_all(&mut output, bytes)
+}
+
+// Writes bytes, and returns 0, or the number of the error where they did not all go out.
+pub fn send_out(e: Ends<'_>, to: Sink<'_>, bytes: &[u8]) -> i32 {
+    match to {
+        Sink::Output => number_in(Print::write_all(&e.rt.stdout(), bytes)),
+        Sink::Said => number_in(Print::write_all(&e.rt.stderr(), bytes)),
+        Sink::Opened(file) => number_in(write_to(file, bytes)),
+    }
+}
+
 // Writes a text up to place `at`; nothing where the place is past its end.
-fn put(fd: i32, text: &[u8], at: usize) -> bool {
+fn put(e: Ends<'_>, text: &[u8], at: usize) -> bool {
     if text.len() < at {
         return false;
     }
-    io::write_all(fd, &text[0..at])
+    send_out(e, e.said, &text[0..at]) == 0
 }
 
 // Says a sentence: what a template says with numbers and a name.
-fn say(e: Ends, template: &[u8], values: &[u64], name: &[u8]) {
+fn say(e: Ends<'_>, template: &[u8], values: &[u64], name: &[u8]) {
     let mut text = [0u8; 8192];
     let at = add_message(&mut text, 0, b"v91: ", values, name);
     let at = add_message(&mut text, at, template, values, name);
     let at = add_message(&mut text, at, b"\n", values, name);
-    put(e.said, &text, at);
+    put(e, &text, at);
 }
 
 // Writes bytes to the output and returns whether they all went out; says so where they did not.
-pub fn write(e: Ends, bytes: &[u8]) -> bool {
-    if io::write_all(e.output, bytes) {
+pub fn write(e: Ends<'_>, bytes: &[u8]) -> bool {
+    let error = send_out(e, e.output, bytes);
+    if error == 0 {
         return true;
     }
-    fail_system(e, os::errno(), b"cannot write standard output: ", b"")
+    fail_system(e, error, b"cannot write standard output: ", b"")
+}
+
+// Writes bytes to the output, and returns what went wrong with that.
+pub fn write_out(e: Ends<'_>, bytes: &[u8]) -> Trouble {
+    let error = send_out(e, e.output, bytes);
+    if error == 0 {
+        return Trouble::Nothing;
+    }
+    Trouble::Writing(error)
 }
 
 // Says a sentence with two numbers.
-pub fn tell(e: Ends, template: &[u8], a: u64, b: u64) -> bool
+pub fn tell(e: Ends<'_>, template: &[u8], a: u64, b: u64) -> bool
     ensures { result ≡ true }
 {
     say(e, template, &[a, b], b"");
@@ -84,7 +174,7 @@ pub fn tell(e: Ends, template: &[u8], a: u64, b: u64) -> bool
 }
 
 // The same with a name and no number.
-pub fn tell_name(e: Ends, template: &[u8], name: &[u8]) -> bool
+pub fn tell_name(e: Ends<'_>, template: &[u8], name: &[u8]) -> bool
     ensures { result ≡ true }
 {
     say(e, template, &[0], name);
@@ -92,15 +182,15 @@ pub fn tell_name(e: Ends, template: &[u8], name: &[u8]) -> bool
 }
 
 // Says a text up to place `at`, which has its newline.
-pub fn tell_text(e: Ends, text: &[u8], at: usize) -> bool
+pub fn tell_text(e: Ends<'_>, text: &[u8], at: usize) -> bool
     ensures { result ≡ true }
 {
-    put(e.said, text, at);
+    put(e, text, at);
     true
 }
 
 // Says a sentence with a number about what cannot be done.
-pub fn fail(e: Ends, template: &[u8], a: u64) -> bool
+pub fn fail(e: Ends<'_>, template: &[u8], a: u64) -> bool
     ensures { result ≡ false }
 {
     say(e, template, &[a], b"");
@@ -108,7 +198,7 @@ pub fn fail(e: Ends, template: &[u8], a: u64) -> bool
 }
 
 // The same with a name.
-pub fn fail_name(e: Ends, template: &[u8], name: &[u8]) -> bool
+pub fn fail_name(e: Ends<'_>, template: &[u8], name: &[u8]) -> bool
     ensures { result ≡ false }
 {
     say(e, template, &[0], name);
@@ -116,7 +206,7 @@ pub fn fail_name(e: Ends, template: &[u8], name: &[u8]) -> bool
 }
 
 // The same with numbers and a name, for template k of a list of them, the first of which is template 0; a | ends each.
-pub fn fail_choice(e: Ends, templates: &[u8], k: usize, values: &[u64], name: &[u8]) -> bool
+pub fn fail_choice(e: Ends<'_>, templates: &[u8], k: usize, values: &[u64], name: &[u8]) -> bool
     ensures { result ≡ false }
 {
     say(e, parts::nth_part(templates, b'|', k), values, name);
@@ -124,7 +214,7 @@ pub fn fail_choice(e: Ends, templates: &[u8], k: usize, values: &[u64], name: &[
 }
 
 // Whether a command has so many words; says so where it has not.
-pub fn has(e: Ends, words: &[u8], least: usize, most: usize) -> bool
+pub fn has(e: Ends<'_>, words: &[u8], least: usize, most: usize) -> bool
     ensures { result ≡ (nat_le least (part_count 0 words.now) && nat_le (part_count 0 words.now) most) }
 {
     let count = parts::part_count(words, 0);
@@ -140,7 +230,7 @@ pub fn has(e: Ends, words: &[u8], least: usize, most: usize) -> bool
 }
 
 // The choice of `add_reason` for an error of the system: ENOENT, EBADF, EACCES, ENOTDIR, EISDIR, EINVAL, EFBIG, ENOSPC, EPIPE,
-// ENAMETOOLONG, in this order, and any other.
+// ENAMETOOLONG, in this order, then any other, and EILSEQ.
 fn reason_of(error: i32) -> usize {
     match error {
         2 => 0,
@@ -153,6 +243,7 @@ fn reason_of(error: i32) -> usize {
         28 => 6,
         32 => 7,
         36 => 4,
+        NOT_TEXT => 9,
         _ => 8,
     }
 }
@@ -172,7 +263,8 @@ fn add_reason(text: &mut [u8], at: usize, error: i32) -> usize
           the file would be larger than is allowed\n|\
           no space is left: make room, or write elsewhere\n|\
           nobody reads it any more\n|\
-          the system's error number is #\n|",
+          the system's error number is #\n|\
+          a file is named in UTF-8\n|",
         reason_of(error),
         text::magnitude(error),
         0,
@@ -181,7 +273,7 @@ fn add_reason(text: &mut [u8], at: usize, error: i32) -> usize
 }
 
 // Says what failed, and why: the system's error.
-pub fn fail_system(e: Ends, error: i32, template: &[u8], name: &[u8]) -> bool
+pub fn fail_system(e: Ends<'_>, error: i32, template: &[u8], name: &[u8]) -> bool
     ensures { result ≡ false }
 {
     let mut text = [0u8; 8192];
@@ -189,32 +281,50 @@ pub fn fail_system(e: Ends, error: i32, template: &[u8], name: &[u8]) -> bool
     let at = add_message(&mut text, at, template, &[0], name);
     if at <= 8192 {
         let at = add_reason(&mut text, at, error);
-        put(e.said, &text, at);
+        put(e, &text, at);
     }
     false
 }
 
 // How many bytes were read into a buffer, and the system's error where a read failed, else 0.
-#[derive(Drop)]
+#[derive(Clone, Copy)]
 pub struct Filled {
     pub count: usize,
     pub error: i32,
 }
 
+// Reads once into a buffer, and returns how many bytes came, none at the input's end.
+fn read_once(e: Ends<'_>, from: Source<'_>, buffer: &mut [u8]) -> Result<usize, Error>
+    ensures { ReadsAtMost result buffer.new }
+{
+    match from {
+        Source::Standard => {
+            let mut input = e.rt.stdin();
+            input.read(buffer)
+        }
+        Source::Opened(file) => {
+            let mut input = file;
+            input.read(buffer)
+        }
+    }
+}
+
 // Reads into a buffer until it is full, the input ends or a read fails.
-pub fn fill(fd: i32, buffer: &mut [u8]) -> Filled
+pub fn fill(e: Ends<'_>, from: Source<'_>, buffer: &mut [u8]) -> Filled
     ensures { result.count ≤ length buffer.new }
 {
     let mut at = 0;
     while at < buffer.len() {
-        let got = libc::read(fd, &mut buffer[at..]);
-        if got < 0 {
-            return Filled {
-                count: at,
-                error: os::errno(),
-            };
-        }
-        let n = io::count(got, &buffer[at..]);
+        let got = read_once(e, from, &mut buffer[at..]);
+        let n = match got {
+            Ok(n) => n,
+            Err(error) => {
+                return Filled {
+                    count: at,
+                    error: number_of(error),
+                };
+            }
+        };
         if n == 0 {
             return Filled {
                 count: at,
@@ -229,18 +339,61 @@ pub fn fill(fd: i32, buffer: &mut [u8]) -> Filled
     }
 }
 
+// Opens a file for reading; the number of the error where it cannot be.
+pub fn open_read(e: Ends<'_>, name: &[u8]) -> Result<File, i32> {
+    let Ok(text) = str::from_utf8(name) else {
+        return Err(NOT_TEXT);
+    };
+    match File::open(&e.rt, text) {
+        Ok(file) => Ok(file),
+        Err(error) => Err(number_of(error)),
+    }
+}
+
+// Opens a file for writing, makes it where there is none and empties it; the number of the error where it cannot be.
+pub fn open_overwrite(e: Ends<'_>, name: &[u8]) -> Result<File, i32> {
+    let Ok(text) = str::from_utf8(name) else {
+        return Err(NOT_TEXT);
+    };
+    match File::create(&e.rt, text) {
+        Ok(file) => Ok(file),
+        Err(error) => Err(number_of(error)),
+    }
+}
+
+// Renames a file; returns 0, or the number of the error.
+pub fn rename(e: Ends<'_>, from: &[u8], to: &[u8]) -> i32 {
+    let Ok(from) = str::from_utf8(from) else {
+        return NOT_TEXT;
+    };
+    let Ok(to) = str::from_utf8(to) else {
+        return NOT_TEXT;
+    };
+    number_in(fs::rename(&e.rt, from, to))
+}
+
+// Removes a file; returns 0, or the number of the error.
+pub fn remove(e: Ends<'_>, name: &[u8]) -> i32 {
+    let Ok(text) = str::from_utf8(name) else {
+        return NOT_TEXT;
+    };
+    number_in(fs::remove_file(&e.rt, text))
+}
+
 // Fills a buffer from a file; says so where it cannot be read.
-pub fn fill_from(e: Ends, name: &[u8], buffer: &mut [u8]) -> Filled
+pub fn fill_from(e: Ends<'_>, name: &[u8], buffer: &mut [u8]) -> Filled
     ensures { result.count ≤ length buffer.new }
 {
-    let fd = os::open_read(name);
-    if fd < 0 {
-        let error = os::errno();
-        fail_system(e, error, b"cannot open @: ", name);
-        return Filled { count: 0, error };
-    }
-    let got = fill(fd, buffer);
-    libc::close(fd);
+    let opened = open_read(e, name);
+    let file = match opened {
+        Ok(file) => file,
+        Err(error) => {
+            fail_system(e, error, b"cannot open @: ", name);
+            return Filled { count: 0, error };
+        }
+    };
+    let got = fill(e, Source::Opened(&file), buffer);
+    drop(file);
     if got.error != 0 {
         fail_system(e, got.error, b"cannot read @: ", name);
     }
@@ -248,7 +401,7 @@ pub fn fill_from(e: Ends, name: &[u8], buffer: &mut [u8]) -> Filled
 }
 
 // What ended a stream before its input did: the system's error at a read or a write, or a refusal.
-#[derive(Drop)]
+#[derive(Clone, Copy)]
 pub enum Trouble {
     Nothing,
     Reading(i32),
@@ -281,7 +434,7 @@ pub fn is_over(t: Trouble) -> bool
 }
 
 // Says what ended a stream before its input did, and returns whether nothing did.
-pub fn all_well(e: Ends, t: Trouble) -> bool
+pub fn all_well(e: Ends<'_>, t: Trouble) -> bool
     ensures { result ≡ is_well t }
 {
     match t {
@@ -297,62 +450,63 @@ pub fn all_well(e: Ends, t: Trouble) -> bool
 }
 
 // How many bytes a read gave, none at the input's end, and what went wrong with it.
-#[derive(Drop)]
+#[derive(Clone, Copy)]
 pub struct Got {
     pub count: usize,
     pub trouble: Trouble,
 }
 
 // Reads into the buffer from place `start` up to `end`.
-pub fn read_some(e: Ends, buffer: &mut [u8], start: usize, end: usize) -> Got
+pub fn read_some(e: Ends<'_>, buffer: &mut [u8], start: usize, end: usize) -> Got
     requires { (start ≤ end) × (end ≤ length buffer.old) }
     ensures { start + result.count ≤ end }
 {
-    let got = libc::read(e.input, &mut buffer[start..end]);
-    if got < 0 {
-        return Got {
+    let got = read_once(e, e.input, &mut buffer[start..end]);
+    match got {
+        Ok(count) => Got {
+            count,
+            trouble: Trouble::Nothing,
+        },
+        Err(error) => Got {
             count: 0,
-            trouble: Trouble::Reading(os::errno()),
-        };
-    }
-    Got {
-        count: io::count(got, &buffer[start..end]),
-        trouble: Trouble::Nothing,
+            trouble: Trouble::Reading(number_of(error)),
+        },
     }
 }
 
 // How many bytes were read so far, the second in which that was last shown, and whether the line that shows it is still open.
-#[derive(Drop)]
+#[derive(Clone, Copy)]
 pub struct Meter {
     pub bytes: u64,
     pub second: i64,
     pub open: bool,
 }
 
-// The time in seconds.
-fn now_in_seconds() -> i64 {
-    let mut second: i64 = 0;
-    libc::time(&mut second);
-    second
+// The time in seconds; 0 where the clock cannot be read.
+fn now_in_seconds(rt: HostRuntime) -> i64 {
+    match rt.since_1970() {
+        Ok(time) => time.as_secs().cast_signed(),
+        Err(_) => 0,
+    }
 }
 
 // A meter that begins.
-pub fn begun() -> Meter
+pub fn begun(rt: HostRuntime) -> Meter
     ensures { (result.bytes ≡ 0) × (result.open ≡ false) }
 {
     Meter {
         bytes: 0,
-        second: now_in_seconds(),
+        second: now_in_seconds(rt),
         open: false,
     }
 }
 
 // Ends the line that shows how far a stream is, where it is open, so that another can be said.
-pub fn closed(e: Ends, m: Meter) -> Meter
+pub fn closed(e: Ends<'_>, m: Meter) -> Meter
     ensures { (result.bytes ≡ m.bytes) × (result.second ≡ m.second) × (result.open ≡ false) }
 {
     if m.open {
-        put(e.said, b"\n", 1);
+        put(e, b"\n", 1);
     }
     Meter {
         bytes: m.bytes,
@@ -362,11 +516,11 @@ pub fn closed(e: Ends, m: Meter) -> Meter
 }
 
 // So many bytes and frames more; shows how far the stream is, once a second, where that is asked for.
-pub fn moved(e: Ends, shows: bool, m: Meter, count: usize, frames: u64) -> Meter
+pub fn moved(e: Ends<'_>, shows: bool, m: Meter, count: usize, frames: u64) -> Meter
     ensures { result.bytes ≡ (m.bytes + count) % 2 ^ 64 }
 {
     let bytes = wrapping_add_u64(m.bytes, count as u64);
-    let second = now_in_seconds();
+    let second = now_in_seconds(e.rt);
     if !shows | (second == m.second) {
         return Meter {
             bytes,
@@ -383,7 +537,7 @@ pub fn moved(e: Ends, shows: bool, m: Meter, count: usize, frames: u64) -> Meter
         bytes / 100_000 % 10,
         frames,
     );
-    put(e.said, &text, at);
+    put(e, &text, at);
     Meter {
         bytes,
         second,

@@ -1,4 +1,6 @@
 // K and D, and masks with their sizes, membership and labels.
+#![tactic(auto)]
+
 ghost use Rattle.std.specs.Prelude.{◌≡◌, ◌<◌, ◌≤◌, max};
 ghost use Rattle.standard.specs.Record.{index_of, top_index, K, D};
 ghost use Rattle.standard.specs.Constellation.{size_of, label_of, sizes};
@@ -22,7 +24,7 @@ pub fn d_of(r: Record) -> usize
 }
 
 // A mask: Ucodes 0 to 63 and 64 to 127, a bit for each.
-#[derive(Drop)]
+#[derive(Clone, Copy)]
 pub struct Mask {
     pub low: u64,
     pub high: u64,

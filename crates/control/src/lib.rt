@@ -1,6 +1,8 @@
 // V.91 Table 3, the control channel's sequence of 96 bits in 12 bytes: a slip detection pattern in bits 0 to 15, the orders to clear down
 // and to retrain in 16 and 17, secondary channel data in 24 to 77 and a CRC in 78 to 93. It is written whole, kept as its bits come, six at
 // a time, and judged when all have come.
+#![tactic(auto)]
+
 ghost use Rattle.std.specs.Prelude.{◌≡◌, ◌++◌, ◌+◌, ◌*◌, ◌%◌, ◌^◌, ◌<◌, ◌≤◌, length};
 ghost use Rattle.standard.specs.Bits.{bit_at, bits_in, bits_of, bytes_of, nth};
 ghost use Rattle.standard.specs.Control.{sequence_crc, sequence_bytes, judged};

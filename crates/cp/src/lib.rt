@@ -1,4 +1,6 @@
 // The CP reader and the CP writer: V.91, Table 4.
+#![tactic(auto)]
+
 ghost use Rattle.std.specs.Prelude.{◌≡◌, ltb};
 ghost use Rattle.standard.specs.First.{first};
 ghost use Rattle.standard.specs.Record.{top_index, no_record};

@@ -1,4 +1,6 @@
 // The CP in the C interface: what v91_write_cp, v91_read_cp, v91_send_cp and v91_find_state do.
+#![tactic(auto)]
+
 ghost use Rattle.std.specs.Prelude.{◌≡◌};
 ghost use Rattle.cp_c.specs.Interface.{v91_read_cp, v91_write_cp, v91_send_cp, v91_find_state};
 

@@ -1,4 +1,6 @@
 // What a CP sequence is refused for: 1 to 10, 25 and 11, in stages that follow the paper's order.
+#![tactic(auto)]
+
 ghost use Rattle.std.specs.Prelude.{◌≡◌, ◌≤◌};
 ghost use Rattle.standard.specs.First.{first};
 ghost use Rattle.standard.specs.Bits.{bit_at};

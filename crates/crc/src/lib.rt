@@ -1,4 +1,6 @@
 // The CRC of V.34, of a CP and of the control channel's sequence: over bits of a buffer, sixteen at a time.
+#![tactic(auto)]
+
 ghost use Rattle.std.specs.Prelude.{◌≡◌, ◌^◌, ◌<◌, ◌≤◌};
 ghost use Rattle.standard.specs.Lists.{list_from, after};
 ghost use Rattle.standard.specs.Bits.{bit_at, bits_of};

@@ -1,5 +1,7 @@
 // A CP sequence and the cost of a flipped sign in plain words, and the program's example. A text is added to from a place within it, and the
 // place after what was added is within it too.
+#![tactic(auto)]
+
 mod example;
 mod flipped;
 

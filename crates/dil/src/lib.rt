@@ -1,4 +1,6 @@
 // V.91 7.3: the default digital impairment learning sequence (DIL), by the parameters of Table 5.
+#![tactic(auto)]
+
 ghost use Rattle.std.specs.Prelude.{◌≡◌, ◌<◌, length, get_or};
 ghost use Rattle.standard.specs.Dil.{segment, training_symbols, table5};
 ghost use Rattle.standard.specs.Refusals.{outcome_answer};

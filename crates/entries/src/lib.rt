@@ -1,4 +1,6 @@
 // The entries of a settings file in its bytes: numbers read, entries counted, their bytes added up.
+#![tactic(auto)]
+
 ghost use Rattle.std.specs.Prelude.{◌≡◌, true, cond, ◌+◌, ◌*◌, ◌<◌, ◌≤◌, ◌^◌, length, get_or};
 ghost use Rattle.standard.specs.Settings.{little_at, entries_at, below, junctions};
 ghost use Rattle.entries.specs.Entries.{inside, sizes};

@@ -1,4 +1,6 @@
 // What a record is refused for: 4, 9 to 12 and 25.
+#![tactic(auto)]
+
 ghost use Rattle.std.specs.Prelude.{◌≡◌, ◌<◌, ◌≤◌};
 ghost use Rattle.standard.specs.First.{first};
 ghost use Rattle.standard.specs.Record.{index_of, top_index};

@@ -1,5 +1,7 @@
 // What one flipped sign costs: which data bits change where the sign of interval i of a frame of k + 6 bits is flipped. Places are counted
 // from the frame's first bit.
+#![tactic(auto)]
+
 ghost use Rattle.std.specs.Prelude.{◌≡◌, ◌+◌, ◌^◌, ◌<◌, length};
 ghost use Rattle.standard.specs.Flip.{reaches as Flip·reaches, changes as Flip·changes};
 ghost use Rattle.standard.specs.Flip.{next_sign, changed_places};

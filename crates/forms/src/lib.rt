@@ -1,4 +1,6 @@
 // What crosses an interface in bytes beside a line state: a record, a plan and what is said of a control sequence.
+#![tactic(auto)]
+
 ghost use Rattle.std.specs.Prelude.{◌≡◌, ◌≤◌, ◌++◌, length, drop};
 ghost use Rattle.standard.specs.Lists.{list_from};
 ghost use Rattle.standard.specs.Calls.{over};
@@ -98,7 +100,7 @@ pub fn plan_into(p: Planned, bytes: &mut [u8])
 }
 
 // What is said of a control sequence: its kind, and the bits of a sequence heard, 0 where none is.
-#[derive(Drop)]
+#[derive(Clone, Copy)]
 struct Spoken {
     kind: u8,
     bits: u64,

@@ -1,4 +1,6 @@
 // What a call carries from one data frame to the next.
+#![tactic(auto)]
+
 ghost use Rattle.std.specs.Prelude.{◌≡◌, ◌<◌, ◌^◌, length};
 ghost use Rattle.standard.specs.Frame.{doubtful_after};
 ghost use Rattle.frame.specs.Parts.{state_of, Bounded};
@@ -9,7 +11,7 @@ use standard::LineState;
 // A line state on its way through a call, but for the sequence's bits: the last sign, its history in the order of time, how many coming
 // data bits are doubtful, the frame place, whether a frame of the sequence was lost, and the sequence place. In this order the compiler
 // keeps them apart.
-#[derive(Drop)]
+#[derive(Clone, Copy)]
 pub struct Carried {
     pub sign: bool,
     pub past: u32,

@@ -1,4 +1,6 @@
 // Frames in the C interface: what v91_send and v91_receive do.
+#![tactic(auto)]
+
 ghost use Rattle.std.specs.Prelude.{◌≡◌};
 ghost use Rattle.frames_c.specs.Interface.{v91_send, v91_receive};
 

@@ -1,4 +1,6 @@
 // The data frames of a call received, one after the other.
+#![tactic(auto)]
+
 ghost use Rattle.std.specs.Prelude.{◌≡◌, cond, length, take, ◌*◌, ◌≤◌};
 ghost use Rattle.standard.specs.Lists.{last_or};
 ghost use Rattle.standard.specs.Bits.{bit_at, bytes_of, bytes_for, nth};
@@ -24,7 +26,7 @@ fn say(ends: bool, before: Said, lost: bool, sequence: &[u8]) -> Said
 }
 
 // The state that a call leaves, and what it says of the control sequence that ends in it.
-#[derive(Drop)]
+#[derive(Clone, Copy)]
 pub struct FramesHeard {
     pub state: LineState,
     pub said: Said,

@@ -1,4 +1,6 @@
 // The data frames of a call sent, one after the other.
+#![tactic(auto)]
+
 ghost use Rattle.std.specs.Prelude.{◌≡◌, length, ◌*◌, ◌≤◌};
 ghost use Rattle.standard.specs.Bits.{bits_in};
 ghost use Rattle.standard.specs.Frame.{call_bits, send_frames, send_after};

@@ -1,11 +1,13 @@
 // Six octets from the line, without a line state: their labels, their number, the mark, and a frame's D bits on the line. K, the sizes and
 // the labels by Ucode are those that a call draws up of its record.
+#![tactic(auto)]
+
 ghost use Rattle.std.specs.Prelude.{◌≡◌, ℕ, ◌≤◌, length, get_or};
 ghost use Rattle.standard.specs.Lists.{list_from};
 ghost use Rattle.standard.specs.First.{first};
 ghost use Rattle.standard.specs.Bits.{number_of};
 ghost use Rattle.standard.specs.Modulus.{number as number_in};
-ghost use Rattle.standard.specs.Frame.{sign_at_lem, mark as mark_of, heard_bits};
+ghost use Rattle.standard.specs.Frame.{sign_at, mark as mark_of, heard_bits};
 ghost use Rattle.standard.specs.declared.Record.{Record};
 ghost use Rattle.hearing.specs.Legible.{Legible, label_in, none_test};
 
@@ -59,7 +61,7 @@ fn number_of(sizes: [u64; 6], found: [u8; 6]) -> u64
 }
 
 // What six octets give: the mark, and the D bits on the line, zeros where the frame is marked.
-#[derive(Drop)]
+#[derive(Clone, Copy)]
 pub struct Heard {
     pub mark: u8,
     pub bits: u64,
@@ -75,7 +77,7 @@ pub fn hear(
     octets: &[u8],
 ) -> Heard
     requires { ((r : Record) × Legible r mapping labels.now) × (length octets.now ≡ 6)
-        × (signs ≡ number_of (list_from (sign_at_lem octets.now) 0 6)) }
+        × (signs ≡ number_of (list_from (sign_at octets.now) 0 6)) }
     ensures { (r : Record) → Legible r mapping labels.now
         → (result.mark ≡ mark_of r law octets.now) × (result.bits ≡ number_of (heard_bits r law last octets.now)) }
 {

@@ -1,4 +1,6 @@
 // Numbers and entries of a settings file laid into a buffer, one behind the other.
+#![tactic(auto)]
+
 ghost use Rattle.std.specs.Prelude.{◌≡◌, true, [], ◌∷◌, ◌+◌, ◌<◌, ◌≤◌, ◌%◌, length, get_or, take, drop};
 ghost use Rattle.std.proofs.Math.Option.{some};
 ghost use Rattle.standard.specs.Settings.{little, entry_at, entries_at, entry};
@@ -40,7 +42,7 @@ pub fn put_number(out: &mut [u8], to: usize, v: usize, w: usize)
 }
 
 // Where the next entry goes, and where the one before it starts.
-#[derive(Drop)]
+#[derive(Clone, Copy)]
 pub struct Spot {
     pub to: usize,
     pub before: usize,

@@ -1,4 +1,6 @@
 // The fields of a CP in its bytes, by their bit numbers in V.91, Table 4: a record read from them, and put into them.
+#![tactic(auto)]
+
 ghost use Rattle.std.specs.Prelude.{◌≡◌, ◌+◌, ◌*◌, ◌^◌, ◌<◌, ◌≤◌, length, drop, replicate};
 ghost use Rattle.standard.specs.Lists.{list_from};
 ghost use Rattle.standard.specs.Bits.{weight, bit_at, field};

@@ -1,4 +1,6 @@
 // Streams of any length through the frame sender, the frame receiver and the linear samples, call after call.
+#![tactic(auto)]
+
 mod linear;
 mod receive;
 mod send;

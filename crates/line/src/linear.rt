@@ -1,7 +1,7 @@
 // Octets as linear samples in text, one a line.
 ghost use Rattle.std.specs.Prelude.{◌≡◌, ◌≤◌, false, length};
 
-use console::{Ends, Meter, Trouble, begun, closed, is_well, moved, read_some};
+use console::{Ends, Meter, Trouble, begun, closed, is_well, moved, read_some, write_out};
 use standard::Law;
 use words::add_choice;
 
@@ -28,7 +28,7 @@ fn add_samples(text: &mut [u8], samples: &[i32]) -> usize
 }
 
 // A stream between two reads: how far it is, whether the input goes on, and what ended it before its end.
-#[derive(Drop)]
+#[derive(Clone, Copy)]
 struct Stream {
     meter: Meter,
     more: bool,
@@ -46,7 +46,7 @@ fn ended(s: Stream, trouble: Trouble) -> Stream {
 }
 
 // Writes the samples of up to 1,024 octets, and returns what went wrong with that.
-fn write_samples(e: Ends, law: Law, octets: &[u8]) -> Trouble
+fn write_samples(e: Ends<'_>, law: Law, octets: &[u8]) -> Trouble
     requires { length octets.now ≤ 1024 }
 {
     let mut samples = [0i32; 1024];
@@ -54,14 +54,11 @@ fn write_samples(e: Ends, law: Law, octets: &[u8]) -> Trouble
     pcm::linear(law, octets, &mut samples);
     let n = octets.len();
     let at = add_samples(&mut text, &samples[0..n]);
-    if io::write_all(e.output, &text[0..at]) {
-        return Trouble::Nothing;
-    }
-    Trouble::Writing(os::errno())
+    write_out(e, &text[0..at])
 }
 
 // Writes the samples of what the next read gives.
-fn linear_some(e: Ends, law: Law, shows: bool, s: Stream) -> Stream {
+fn linear_some(e: Ends<'_>, law: Law, shows: bool, s: Stream) -> Stream {
     let mut octets = [0u8; 1024];
     let got = read_some(e, &mut octets, 0, 1024);
     let n = got.count;
@@ -79,9 +76,9 @@ fn linear_some(e: Ends, law: Law, shows: bool, s: Stream) -> Stream {
 }
 
 // Writes the linear sample of each octet of the input. A proved loop has to end, so this one counts down from a number that no run uses up.
-fn linear_all(e: Ends, law: Law, shows: bool) -> Stream {
+fn linear_all(e: Ends<'_>, law: Law, shows: bool) -> Stream {
     let mut s = Stream {
-        meter: begun(),
+        meter: begun(e.rt),
         more: true,
         trouble: Trouble::Nothing,
     };
@@ -94,14 +91,14 @@ fn linear_all(e: Ends, law: Law, shows: bool) -> Stream {
 }
 
 // What came of the octets: how far the stream came, and what ended it before the input did.
-#[derive(Drop)]
+#[derive(Clone, Copy)]
 pub struct Sampled {
     pub meter: Meter,
     pub trouble: Trouble,
 }
 
 // Writes the linear samples of the input's octets to the output, one a line.
-pub fn linear_stream(e: Ends, law: Law, shows: bool) -> Sampled
+pub fn linear_stream(e: Ends<'_>, law: Law, shows: bool) -> Sampled
     ensures { result.meter.open ≡ false }
 {
     let s = linear_all(e, law, shows);

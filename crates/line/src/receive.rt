@@ -5,6 +5,7 @@ ghost use Rattle.std.specs.Prelude.{◌≡◌, ◌<◌, ◌≤◌, length};
 use crate::{first_of, keep, place_of};
 use console::{
     Ends, Meter, Trouble, begun, closed, is_over, is_well, moved, read_some, tell, tell_text,
+    write_out,
 };
 use frame::doubtful_after;
 use marks::Report;
@@ -16,7 +17,7 @@ use words::{add_choice, add_name};
 
 // What is known and told of the frames so far: what their marks come to, how many runs of marked frames were told and how many were not,
 // and how far the stream is.
-#[derive(Drop)]
+#[derive(Clone, Copy)]
 struct Told {
     report: Report,
     told: u64,
@@ -26,7 +27,7 @@ struct Told {
 
 // A stream between two calls: the line state, the octets at the front of the buffer that wait for more, the last eight bits received and
 // how many of them wait for more, what is told, the bytes still wanted, whether the input goes on, and what ended it before its end.
-#[derive(Drop)]
+#[derive(Clone, Copy)]
 struct Stream {
     state: LineState,
     waiting: usize,
@@ -39,7 +40,7 @@ struct Stream {
 }
 
 // Says the run of marked frames that ends with the frames so far; `after` tells whether a good frame follows.
-fn say_run(e: Ends, p: Report, after: bool) {
+fn say_run(e: Ends<'_>, p: Report, after: bool) {
     let mut text = [0u8; 256];
     let last = wrapping_sub_u64(p.frames, 1);
     let one = (p.first == last) as usize;
@@ -76,7 +77,7 @@ fn say_run(e: Ends, p: Report, after: bool) {
 }
 
 // Tells the run of marked frames that a frame with another mark ends; after twenty runs they are only counted.
-fn end_run(e: Ends, t: Told, mark: u8, after: bool) -> Told {
+fn end_run(e: Ends<'_>, t: Told, mark: u8, after: bool) -> Told {
     let report = t.report;
     if (report.mark == 0) | (report.mark == mark) {
         return t;
@@ -101,7 +102,7 @@ fn end_run(e: Ends, t: Told, mark: u8, after: bool) -> Told {
 }
 
 // Notes the mark of a frame of so many bits, before which so many coming ones are doubtful.
-fn note(e: Ends, before: Told, width: u64, coming: u8, mark: u8) -> Told {
+fn note(e: Ends<'_>, before: Told, width: u64, coming: u8, mark: u8) -> Told {
     let t = end_run(e, before, mark, mark == 0);
     let meter = t.meter;
     Told {
@@ -113,7 +114,7 @@ fn note(e: Ends, before: Told, width: u64, coming: u8, mark: u8) -> Told {
 }
 
 // Says the control sequence heard, which ends with this frame.
-fn say_heard(e: Ends, frame: u64, word: u64) {
+fn say_heard(e: Ends<'_>, frame: u64, word: u64) {
     let mut text = [0u8; 256];
     let mut digits = [0u8; 54];
     put_digits(word, &mut digits);
@@ -134,7 +135,7 @@ fn say_heard(e: Ends, frame: u64, word: u64) {
 }
 
 // Says what the receiver says of the control sequence that ends with this frame.
-fn say_sequence(e: Ends, frame: u64, said: Said) -> bool {
+fn say_sequence(e: Ends<'_>, frame: u64, said: Said) -> bool {
     match said {
         Said::Nothing => true,
         Said::Sequence(word) => {
@@ -164,7 +165,7 @@ fn is_said(said: Said) -> bool {
 }
 
 // Tells of the control sequence that ends with the last of the frames so far, where one does.
-fn end_sequence(e: Ends, t: Told, said: Said, ends: bool) -> Told {
+fn end_sequence(e: Ends<'_>, t: Told, said: Said, ends: bool) -> Told {
     if !ends | !is_said(said) {
         return t;
     }
@@ -186,7 +187,7 @@ fn ending_of(state: LineState) -> usize {
 
 // Notes the marks of the frames of a call, which began in a line state, and what it says of the control sequence that ends in it.
 fn note_all(
-    e: Ends,
+    e: Ends<'_>,
     r: Record,
     control: bool,
     begun: Told,
@@ -241,18 +242,15 @@ fn ended(s: Stream, trouble: Trouble) -> Stream
 }
 
 // Writes the data that begins at bit `at` of the bytes, as much as `out` has room for, and returns what went wrong with that.
-fn write_bits(e: Ends, bytes: &[u8], at: usize, out: &mut [u8]) -> Trouble
+fn write_bits(e: Ends<'_>, bytes: &[u8], at: usize, out: &mut [u8]) -> Trouble
     requires { (at ≤ 8) × (length out.old ≤ 6144) }
 {
     unaligned::copy_bits(bytes, at, out);
-    if io::write_all(e.output, out) {
-        return Trouble::Nothing;
-    }
-    Trouble::Writing(os::errno())
+    write_out(e, out)
 }
 
 // Writes `count` bytes of the data that begins at bit `at` of the bytes.
-fn hand_over(e: Ends, bytes: &[u8], at: usize, count: usize) -> Trouble
+fn hand_over(e: Ends<'_>, bytes: &[u8], at: usize, count: usize) -> Trouble
     requires { (at ≤ 8) × (count ≤ 6144) }
 {
     let mut out = [0u8; 6144];
@@ -262,7 +260,7 @@ fn hand_over(e: Ends, bytes: &[u8], at: usize, count: usize) -> Trouble
 // After frames whose data begins with the second of `bytes`: hands over the bytes that are full and still wanted. The first of `bytes` has
 // the last eight bits of the frames before.
 fn after_frames(
-    e: Ends,
+    e: Ends<'_>,
     r: Record,
     control: bool,
     s: Stream,
@@ -296,7 +294,7 @@ fn after_frames(
 
 // After a call: nothing more where it was refused.
 fn after_call(
-    e: Ends,
+    e: Ends<'_>,
     r: Record,
     control: bool,
     s: Stream,
@@ -317,7 +315,7 @@ fn after_call(
 
 // Receives frames from the front of the buffer into all but the first of `bytes`, and hands them over.
 fn receive_frames(
-    e: Ends,
+    e: Ends<'_>,
     r: Record,
     law: Law,
     control: bool,
@@ -345,7 +343,7 @@ fn receive_frames(
 
 // The same, with room for 1,024 frames.
 fn receive_up_to(
-    e: Ends,
+    e: Ends<'_>,
     r: Record,
     law: Law,
     control: bool,
@@ -372,7 +370,7 @@ fn receive_up_to(
 }
 
 // With so many octets that wait at the front of the buffer, after so many more were read.
-fn waits(e: Ends, shows: bool, s: Stream, waiting: usize, count: usize) -> Stream
+fn waits(e: Ends<'_>, shows: bool, s: Stream, waiting: usize, count: usize) -> Stream
     requires { (s.held < 8) × (waiting < 6) }
     ensures { (result.held < 8) × (result.waiting < 6) }
 {
@@ -400,7 +398,7 @@ fn waits(e: Ends, shows: bool, s: Stream, waiting: usize, count: usize) -> Strea
 
 // Receives what the next read gives.
 fn receive_some(
-    e: Ends,
+    e: Ends<'_>,
     r: Record,
     law: Law,
     control: bool,
@@ -426,7 +424,7 @@ fn receive_some(
 }
 
 // A stream that begins in a line state.
-fn begin(state: LineState, wanted: u64) -> Stream
+fn begin(rt: HostRuntime, state: LineState, wanted: u64) -> Stream
     ensures { (result.waiting ≡ 0) × (result.held ≡ 0) }
 {
     let report = Report {
@@ -440,7 +438,7 @@ fn begin(state: LineState, wanted: u64) -> Stream
         report,
         told: 0,
         untold: 0,
-        meter: begun(),
+        meter: begun(rt),
     };
     Stream {
         state,
@@ -457,7 +455,7 @@ fn begin(state: LineState, wanted: u64) -> Stream
 // Receives call after call until the input ends or enough was received. A proved loop has to end, so this one counts down from a number
 // that no run uses up.
 fn receive_all(
-    e: Ends,
+    e: Ends<'_>,
     r: Record,
     law: Law,
     control: bool,
@@ -469,7 +467,7 @@ fn receive_all(
     ensures { (result.waiting < 6) × (result.held < 8) }
 {
     let mut octets = [0u8; 6144];
-    let mut s = begin(state, wanted);
+    let mut s = begin(e.rt, state, wanted);
     let mut turns = u64::MAX;
     while turns > 0 && s.more {
         s = receive_some(e, r, law, control, shows, s, &mut octets);
@@ -481,7 +479,7 @@ fn receive_all(
 // What was received: what the marks come to, how many runs of marked frames were not told, how many coming bits are doubtful, the octets at
 // the end that make no frame, the bits in a last byte that is not full, the bytes of data still wanted, and what ended it before the input
 // did.
-#[derive(Drop)]
+#[derive(Clone, Copy)]
 pub struct Received {
     pub report: Report,
     pub untold: u64,
@@ -493,7 +491,7 @@ pub struct Received {
 }
 
 // What comes of a stream, after so many bits are handed over in a last byte that is not full, none where there is none.
-fn sum_up(e: Ends, s: Stream, held: usize, last: Trouble) -> Received
+fn sum_up(e: Ends<'_>, s: Stream, held: usize, last: Trouble) -> Received
     requires { (s.waiting < 6) × (held < 8) }
     ensures { (result.waiting < 6) × (result.held < 8) }
 {
@@ -514,7 +512,7 @@ fn sum_up(e: Ends, s: Stream, held: usize, last: Trouble) -> Received
 }
 
 // Hands over the bits that fill no byte, and zeros behind them, where a byte is still wanted.
-fn finish(e: Ends, s: Stream) -> Received
+fn finish(e: Ends<'_>, s: Stream) -> Received
     requires { (s.waiting < 6) × (s.held < 8) }
     ensures { (result.waiting < 6) × (result.held < 8) }
 {
@@ -530,7 +528,7 @@ fn finish(e: Ends, s: Stream) -> Received
 // Receives the input to the output, frame after frame from a line state on, up to so many bytes of data. No record that was read has a drn
 // above 28.
 pub fn receive_stream(
-    e: Ends,
+    e: Ends<'_>,
     r: Record,
     law: Law,
     control: bool,
@@ -541,7 +539,7 @@ pub fn receive_stream(
     ensures { (result.waiting < 6) × (result.held < 8) }
 {
     if 28 < r.drn {
-        let s = ended(begin(state, wanted), Trouble::Refused(9));
+        let s = ended(begin(e.rt, state, wanted), Trouble::Refused(9));
         return finish(e, s);
     }
     let s = receive_all(e, r, law, control, state, wanted, shows);

@@ -4,13 +4,13 @@ ghost use Rattle.std.specs.Prelude.{◌≡◌, ◌+◌, ◌*◌, ◌<◌, ◌≤
 ghost use Rattle.standard.specs.Frame.{call_bits};
 
 use crate::{first_of, keep, place_of};
-use console::{Ends, Meter, Trouble, begun, closed, is_over, is_well, moved, read_some};
+use console::{Ends, Meter, Trouble, begun, closed, is_over, is_well, moved, read_some, write_out};
 use standard::{FramesDone, Law, LineState, Record};
 use std::num::wrapping_add_u64;
 use streams::{bits_in, cut_into};
 
 // The control channel: whether it is on, and the 56 bits of the sequences that it sends.
-#[derive(Drop)]
+#[derive(Clone, Copy)]
 pub struct Channel {
     pub on: bool,
     pub word: u64,
@@ -18,7 +18,7 @@ pub struct Channel {
 
 // A stream between two calls: the line state, the frames so far, the bits that wait for more, which are the last ones of the bytes at the
 // front of the buffer, whether the input goes on, and what ended it before its end.
-#[derive(Drop)]
+#[derive(Clone, Copy)]
 struct Stream {
     state: LineState,
     frames: u64,
@@ -29,14 +29,14 @@ struct Stream {
 }
 
 // The state after frames are sent, and what went wrong with them.
-#[derive(Drop)]
+#[derive(Clone, Copy)]
 struct Step {
     state: LineState,
     trouble: Trouble,
 }
 
 // Writes the octets of frames, unless they were refused.
-fn write_octets(e: Ends, done: FramesDone, octets: &[u8]) -> Step {
+fn write_octets(e: Ends<'_>, done: FramesDone, octets: &[u8]) -> Step {
     let state = done.state;
     let outcome = done.outcome;
     let code = codes::code_of(outcome);
@@ -46,21 +46,13 @@ fn write_octets(e: Ends, done: FramesDone, octets: &[u8]) -> Step {
             trouble: Trouble::Refused(code),
         };
     }
-    if !io::write_all(e.output, octets) {
-        return Step {
-            state,
-            trouble: Trouble::Writing(os::errno()),
-        };
-    }
-    Step {
-        state,
-        trouble: Trouble::Nothing,
-    }
+    let trouble = write_out(e, octets);
+    Step { state, trouble }
 }
 
 // Sends frames of the data that begins at bit `at` of the bytes, by way of `shifted`; zero bits follow their end.
 fn send_from(
-    e: Ends,
+    e: Ends<'_>,
     r: Record,
     law: Law,
     channel: Channel,
@@ -90,7 +82,7 @@ fn send_from(
 
 // The same, with room for the bytes and a frame.
 fn send_frames(
-    e: Ends,
+    e: Ends<'_>,
     r: Record,
     law: Law,
     channel: Channel,
@@ -142,7 +134,7 @@ fn bytes_for(bits: usize) -> usize
 
 // After so many bytes were read and so many frames sent: so many bits wait.
 fn after_step(
-    e: Ends,
+    e: Ends<'_>,
     shows: bool,
     s: Stream,
     step: Step,
@@ -169,7 +161,7 @@ fn after_step(
 // Sends whole frames from this frame place on, with so many bytes that were read behind those that wait; the bits that fill no frame wait
 // at the front of the buffer.
 fn send_read(
-    e: Ends,
+    e: Ends<'_>,
     r: Record,
     law: Law,
     channel: Channel,
@@ -205,7 +197,7 @@ fn send_read(
 
 // Sends whole frames of what the next read gives.
 fn send_some(
-    e: Ends,
+    e: Ends<'_>,
     r: Record,
     law: Law,
     channel: Channel,
@@ -229,7 +221,7 @@ fn send_some(
 
 // Sends call after call from a line state on until the input ends. A proved loop has to end, so this one counts down from a number that no run uses up.
 fn send_all(
-    e: Ends,
+    e: Ends<'_>,
     r: Record,
     law: Law,
     channel: Channel,
@@ -244,7 +236,7 @@ fn send_all(
         state,
         frames: 0,
         left: 0,
-        meter: begun(),
+        meter: begun(e.rt),
         more: true,
         trouble: Trouble::Nothing,
     };
@@ -258,7 +250,7 @@ fn send_all(
 
 // What was sent: how many frames, the bits at the end that fill no frame and were not sent, or the zero bits that the last frame was filled
 // with, and what ended it before the input did.
-#[derive(Drop)]
+#[derive(Clone, Copy)]
 pub struct Sent {
     pub frames: u64,
     pub left: usize,
@@ -268,7 +260,7 @@ pub struct Sent {
 
 // Sends the bits that wait, which fill no frame, with zero bits behind them; with `exact` they are left.
 fn send_rest(
-    e: Ends,
+    e: Ends<'_>,
     r: Record,
     law: Law,
     channel: Channel,
@@ -320,7 +312,7 @@ fn stopped(frames: u64, trouble: Trouble) -> Sent
 // Sends the input to the output, frame after frame from a line state on; whole frames alone, or a last one that is filled with zero bits.
 // No record that was read has a drn above 28.
 pub fn send_stream(
-    e: Ends,
+    e: Ends<'_>,
     r: Record,
     law: Law,
     channel: Channel,

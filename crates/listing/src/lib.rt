@@ -1,4 +1,6 @@
 // The entries of a settings file one after another, for a list of them.
+#![tactic(auto)]
+
 ghost use Rattle.std.specs.Prelude.{◌≡◌, ◌+◌, ◌≤◌, length, get_or};
 ghost use Rattle.standard.specs.Settings.{version_in};
 ghost use Rattle.listing.specs.Reading.{entry_there, Reads, EntryIs};
@@ -9,7 +11,7 @@ use standard::{Outcome, Record};
 use versions::version_in;
 
 // The entry at a place of a file: its junction, whether it is a previous setting, its record and the place after it.
-#[derive(Drop)]
+#[derive(Clone, Copy)]
 pub struct EntryRead {
     pub found: bool,
     pub junction: u16,

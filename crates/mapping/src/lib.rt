@@ -1,5 +1,7 @@
 // What the frames of a call need of its record, drawn up once: K, D and the sizes, and for each interval the Ucodes of its mask
 // in label order and the label of each Ucode or none.
+#![tactic(auto)]
+
 ghost use Rattle.std.specs.Prelude.{◌≡◌, ℕ, ◌+◌, ◌≤◌, ◌<◌, Bool, length, set};
 ghost use Rattle.standard.specs.Record.{index_of};
 ghost use Rattle.standard.specs.Constellation.{label_of, member};
@@ -11,7 +13,7 @@ use constellation::{Mask, d_of, k_of, label_of, mask_of, size_of, sizes_of};
 use standard::Record;
 
 // K, D and M0 to M5.
-#[derive(Drop)]
+#[derive(Clone, Copy)]
 pub struct Mapping {
     pub k: usize,
     pub d: usize,

@@ -1,4 +1,6 @@
 // What the marks of frames come to.
+#![tactic(auto)]
+
 ghost use Rattle.std.specs.Prelude.{◌≡◌, min, if◌then◌else◌, nat_eq};
 ghost use Rattle.standard.specs.Frame.{width};
 ghost use Rattle.marks.specs.Marks.{noted};
@@ -7,7 +9,7 @@ use std::num::wrapping_add_u64;
 
 // What the marks of the frames so far come to: how many frames there are and how many are marked, the mark of the last one and the first of
 // the frames up to it that have that mark, and how many bits of good frames are doubtful.
-#[derive(Drop)]
+#[derive(Clone, Copy)]
 pub struct Report {
     pub frames: u64,
     pub marked: u64,

@@ -1,4 +1,6 @@
 // What a call with a line state is refused for, and what a call of the sender or of the receiver needs of its buffers.
+#![tactic(auto)]
+
 ghost use Rattle.std.specs.Prelude.{◌≡◌, cond, ◌+◌, ◌/◌, ◌%◌, ◌<◌, ◌≤◌, ◌++◌};
 ghost use Rattle.standard.specs.First.{first};
 ghost use Rattle.standard.specs.Bits.{bytes_for};
@@ -58,7 +60,7 @@ fn call_fault(r: Record, state: LineState, frames: usize) -> Outcome
 }
 
 // What a call is refused with before its buffers are looked at, and the bytes of data and the octets that it needs.
-#[derive(Drop)]
+#[derive(Clone, Copy)]
 pub struct Needed {
     pub fault: Outcome,
     pub bytes: usize,

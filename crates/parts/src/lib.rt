@@ -1,17 +1,19 @@
 // A text in parts, each of which ends with a character of its own: the words of a command, the lines of a table.
+#![tactic(auto)]
+
 ghost use Rattle.std.specs.Prelude.{◌≡◌, true, map, ◌+◌, ◌-◌, ◌≤◌, length, take, drop};
 ghost use Rattle.parts.specs.Parts.{small as Parts·small, same as Parts·same, which as Parts·which};
 ghost use Rattle.parts.specs.Parts.{before, past, parts_from, part_at, part_count, all_digits, value_from, number_in};
 
 // The places from which and up to which a part stands.
-#[derive(Drop)]
+#[derive(Clone, Copy)]
 pub struct Part {
     pub start: usize,
     pub end: usize,
 }
 
 // A number that a word says, or none.
-#[derive(Drop)]
+#[derive(Clone, Copy)]
 pub enum Number {
     Is(u64),
     None,

@@ -1,4 +1,6 @@
 // PCM octets and their linear values, made by arithmetic on law, sign and Ucode: V.90 Table 1.
+#![tactic(auto)]
+
 ghost use Rattle.std.specs.Prelude.{◌≡◌, ◌%◌, ◌^◌, ◌<◌};
 ghost use Rattle.standard.specs.Octets.{positive_octet, octet, sign_of, ucode_of, magnitude, sample_of};
 ghost use Rattle.standard.specs.Refusals.{outcome_answer};

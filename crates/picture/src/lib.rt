@@ -1,5 +1,7 @@
 // Pictures of a planned constellation, for text and as an SVG drawing. A text is added to from a place within it, and the place after what
 // was added is within it too.
+#![tactic(auto)]
+
 mod rows;
 mod svg;
 
@@ -10,7 +12,7 @@ use standard::Law;
 use words::{add_choice, add_name, add_numbers};
 
 // What a picture shows: what was asked for but for the ceiling, which is shown in the word that gave it, and what was found.
-#[derive(Drop)]
+#[derive(Clone, Copy)]
 pub struct Shown {
     pub k: u32,
     pub law: Law,
@@ -59,7 +61,7 @@ fn value_before(law: Law, ucodes: &[u8], n: usize) -> u32
 }
 
 // A point: how many are before it, its Ucode, its linear value and that of the point before it.
-#[derive(Drop)]
+#[derive(Clone, Copy)]
 struct Point {
     number: usize,
     ucode: u8,

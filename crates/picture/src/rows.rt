@@ -17,7 +17,7 @@ fn column_of(value: u32, top: u32) -> u64 {
 }
 
 // What is drawn in a row: a line from column `from` to column `to`, where `mark` stands; at `from` the point before, where there is one.
-#[derive(Drop)]
+#[derive(Clone, Copy)]
 struct Span {
     from: u64,
     to: u64,

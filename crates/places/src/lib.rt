@@ -1,4 +1,6 @@
 // Where the settings of a junction stand in a settings file.
+#![tactic(auto)]
+
 ghost use Rattle.std.specs.Prelude.{◌≡◌, true, ◌+◌, ◌-◌, ◌<◌, ◌≤◌, length, take, drop};
 ghost use Rattle.standard.specs.Settings.{entry_at, is_file};
 ghost use Rattle.entries.specs.Entries.{inside, place_after};
@@ -10,7 +12,7 @@ use versions::version_in;
 
 // What a call needs to know of a file: its version, the number of its entries, and how many of them stand before those of a junction and up
 // to their end.
-#[derive(Drop)]
+#[derive(Clone, Copy)]
 pub struct Found {
     pub version: Version,
     pub entries: usize,
@@ -37,7 +39,7 @@ pub fn found_in(s: &[u8], j: usize) -> Found
 }
 
 // Where a CP stands in a file.
-#[derive(Drop)]
+#[derive(Clone, Copy)]
 pub struct Part {
     pub from: usize,
     pub to: usize,

@@ -1,5 +1,7 @@
 // Masks for a wanted rate: of all masks of M points that keep a spacing, the one whose sum of squared linear values is least. It has the
 // lowest Ucodes that keep it.
+#![tactic(auto)]
+
 ghost use Rattle.std.specs.Prelude.{◌≡◌, ◌≤◌, [], ◌∷◌};
 ghost use Rattle.standard.specs.Refusals.{outcome_answer, rate_or_spacing_outside};
 ghost use Rattle.standard.specs.Calls.{plan_call, plan_refusal, plan_points, plan_halves, plan_sum, one_mask};

@@ -1,5 +1,7 @@
 // One data frame received: six octets as D = K + 6 data bits, K in a control frame, held as a number with bit 0 first in time.
 // K, D, the sizes and the tables are those that a call draws up of its record.
+#![tactic(auto)]
+
 ghost use Rattle.std.specs.Prelude.{◌≡◌, cond, length};
 ghost use Rattle.standard.specs.Frame.{six_in};
 ghost use Rattle.standard.specs.declared.Record.{Record};
@@ -15,7 +17,7 @@ use mapping::Mapping;
 use standard::Law;
 
 // A frame received: its mark, the state left but for the sequence's bits, and its data bits.
-#[derive(Drop)]
+#[derive(Clone, Copy)]
 pub struct FrameReceived {
     pub mark: u8,
     pub line: Carried,

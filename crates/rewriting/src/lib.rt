@@ -1,4 +1,6 @@
 // A settings file written afresh: entries copied from another one, those of a junction among them, and the trailer.
+#![tactic(auto)]
+
 ghost use Rattle.std.specs.Prelude.{◌≡◌, true, cond, [], ◌∷◌, ◌++◌, ◌+◌, ◌<◌, ◌≤◌, length};
 ghost use Rattle.standard.specs.Refusals.{outcome_answer};
 ghost use Rattle.standard.specs.Settings.{little, file_of, trailer};

@@ -1,4 +1,6 @@
 // The rules of a settings file: its bytes are looked at in one walk.
+#![tactic(auto)]
+
 ghost use Rattle.std.specs.Prelude.{◌≡◌, false, ◌&&◌, ◌||◌, ◌+◌, ◌<◌, ◌≤◌, eqb, leb, length, get_or};
 ghost use Rattle.standard.specs.Settings.{readable, is_file, bit_count_of};
 ghost use Rattle.theorems_settings.specs.Walk.{placed, good_at, walk};

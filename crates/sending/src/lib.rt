@@ -1,5 +1,7 @@
 // One data frame sent: D = K + 6 data bits, K in a control frame, held as a number with bit 0 first in time, as six octets.
 // K, D, the sizes and the tables are those that a call draws up of its record.
+#![tactic(auto)]
+
 ghost use Rattle.std.specs.Prelude.{◌≡◌, ℕ, ◌<◌, length, get_or};
 ghost use Rattle.standard.specs.Lists.{list_from};
 ghost use Rattle.standard.specs.declared.Record.{Record};

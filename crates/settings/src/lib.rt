@@ -1,4 +1,6 @@
 // The junction settings file: put a setting, go back, look one up.
+#![tactic(auto)]
+
 ghost use Rattle.std.specs.Prelude.{◌≡◌, ◌<◌, ◌≤◌, length, take};
 ghost use Rattle.standard.specs.Refusals.{outcome_answer};
 ghost use Rattle.standard.specs.Settings.{put_file};

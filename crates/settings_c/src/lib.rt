@@ -1,4 +1,6 @@
 // The settings file in the C interface: what v91_put, v91_go_back and v91_look_up do.
+#![tactic(auto)]
+
 ghost use Rattle.std.specs.Prelude.{◌≡◌, ◌<◌, ◌^◌};
 ghost use Rattle.standard.specs.Refusals.{outcome_answer};
 ghost use Rattle.c_calls.specs.Answered.{answered};

@@ -3,7 +3,7 @@ use console::{Ends, fail_name, has};
 use parts::Number;
 
 // What is asked for, with the junction; nothing where the words are wrong. A new file is of version 1 or 2.
-#[derive(Drop)]
+#[derive(Clone, Copy)]
 pub enum Asked {
     Nothing,
     New,
@@ -25,7 +25,7 @@ const BACK: usize = 4;
 const SHOW: usize = 5;
 
 // The number of the word that follows FILE; says so and returns 0 where it is another.
-fn form_in(e: Ends, words: &[u8]) -> usize {
+fn form_in(e: Ends<'_>, words: &[u8]) -> usize {
     let word = parts::nth_part(words, 0, 2);
     let form = parts::which(b"new\nlist\nput\nback\nshow\n", b'\n', word);
     if form == 0 {
@@ -57,7 +57,7 @@ fn most_of(form: usize) -> usize {
 }
 
 // Whether word 4 may follow JUNCTION: with show it is cp; says so where it is not.
-fn right_end(e: Ends, words: &[u8], form: usize) -> bool {
+fn right_end(e: Ends<'_>, words: &[u8], form: usize) -> bool {
     if (form != SHOW) | (parts::part_count(words, 0) < 5) {
         return true;
     }
@@ -93,7 +93,7 @@ fn asked_for(form: usize, junction: u16, count: usize) -> Asked {
 }
 
 // What the words ask for with the junction that word 3 names; says so where it names none.
-fn asked_at(e: Ends, words: &[u8], form: usize) -> Asked {
+fn asked_at(e: Ends<'_>, words: &[u8], form: usize) -> Asked {
     let word = parts::nth_part(words, 0, 3);
     let number = number_of(word);
     match number {
@@ -106,7 +106,7 @@ fn asked_at(e: Ends, words: &[u8], form: usize) -> Asked {
 }
 
 // A settings file of the version that word 3 names, version 1 where there is no such word; says so where it names another.
-fn new_in(e: Ends, words: &[u8]) -> Asked {
+fn new_in(e: Ends<'_>, words: &[u8]) -> Asked {
     if parts::part_count(words, 0) < 4 {
         return Asked::New;
     }
@@ -126,7 +126,7 @@ fn new_in(e: Ends, words: &[u8]) -> Asked {
 }
 
 // What the words ask for; says what is wrong with them.
-pub fn asked_in(e: Ends, words: &[u8]) -> Asked {
+pub fn asked_in(e: Ends<'_>, words: &[u8]) -> Asked {
     let form = form_in(e, words);
     if form == 0 {
         return Asked::Nothing;

@@ -1,5 +1,7 @@
 // What the program does with a settings file: it makes one, lists it, puts a setting, goes back to one and shows one. What the entries
 // refuse is said, and a file is changed by way of a temporary one.
+#![tactic(auto)]
+
 mod asked;
 mod saving;
 mod sentences;
@@ -18,7 +20,7 @@ use standard::{FileWritten, Record};
 const MOST_BYTES: usize = 131072;
 
 // Makes a settings file with no junction, where no file has this name, and says so.
-fn make(e: Ends, name: &[u8], two: bool) -> bool {
+fn make(e: Ends<'_>, name: &[u8], two: bool) -> bool {
     let file = versions::empty_file(two);
     let bytes = file.bytes;
     is_missing(e, name)
@@ -37,7 +39,7 @@ fn front(bytes: &[u8], n: usize) -> &[u8]
 }
 
 // Saves a settings file that is changed for a junction, and says what the change is.
-fn keep(e: Ends, name: &[u8], file: &[u8], changed: &[u8], junction: u16, back: bool) -> bool {
+fn keep(e: Ends<'_>, name: &[u8], file: &[u8], changed: &[u8], junction: u16, back: bool) -> bool {
     let before = settings::look_up(file, junction);
     let after = settings::look_up(changed, junction);
     let outcome = before.outcome;
@@ -47,7 +49,7 @@ fn keep(e: Ends, name: &[u8], file: &[u8], changed: &[u8], junction: u16, back: 
 
 // Saves what a put or a going back made of a settings file, or says what it is refused for.
 fn finish(
-    e: Ends,
+    e: Ends<'_>,
     name: &[u8],
     file: &[u8],
     out: &[u8],
@@ -64,14 +66,14 @@ fn finish(
 }
 
 // Puts a setting for a junction of the settings file with these bytes.
-fn put_in(e: Ends, name: &[u8], file: &[u8], junction: u16, r: Record) -> bool {
+fn put_in(e: Ends<'_>, name: &[u8], file: &[u8], junction: u16, r: Record) -> bool {
     let mut out = [0u8; MOST_BYTES];
     let made = settings::put(file, junction, r, &mut out);
     finish(e, name, file, &out, made, junction, false)
 }
 
 // Exchanges the two settings of a junction of the settings file with these bytes.
-fn back_in(e: Ends, name: &[u8], file: &[u8], junction: u16) -> bool {
+fn back_in(e: Ends<'_>, name: &[u8], file: &[u8], junction: u16) -> bool {
     let mut out = [0u8; MOST_BYTES];
     let made = settings::go_back(file, junction, &mut out);
     finish(e, name, file, &out, made, junction, true)
@@ -88,14 +90,14 @@ fn bytes_for(bit_count: usize) -> usize
 }
 
 // Writes what a CP of so many bits says, in plain words.
-fn write_words(e: Ends, r: Record, bit_count: usize) -> bool {
+fn write_words(e: Ends<'_>, r: Record, bit_count: usize) -> bool {
     let mut text = [0u8; 8192];
     let at = description::add_record(&mut text, 0, r, bit_count);
     write(e, &text[0..at])
 }
 
 // Writes a setting as a CP, by way of `bytes`, or in plain words.
-fn write_setting(e: Ends, r: Record, as_cp: bool, bytes: &mut [u8]) -> bool {
+fn write_setting(e: Ends<'_>, r: Record, as_cp: bool, bytes: &mut [u8]) -> bool {
     let written = cp::write_cp(r, bytes);
     let count = written.bit_count;
     if as_cp {
@@ -105,7 +107,7 @@ fn write_setting(e: Ends, r: Record, as_cp: bool, bytes: &mut [u8]) -> bool {
 }
 
 // Shows the current setting of a junction of the settings file with these bytes.
-fn show_in(e: Ends, name: &[u8], file: &[u8], junction: u16, as_cp: bool) -> bool {
+fn show_in(e: Ends<'_>, name: &[u8], file: &[u8], junction: u16, as_cp: bool) -> bool {
     let read = settings::look_up(file, junction);
     let outcome = read.outcome;
     let code = codes::code_of(outcome);
@@ -117,7 +119,7 @@ fn show_in(e: Ends, name: &[u8], file: &[u8], junction: u16, as_cp: bool) -> boo
 }
 
 // Does what is asked of the settings file with these bytes; a put is not among it.
-fn run_in(e: Ends, name: &[u8], file: &[u8], asked: Asked) -> bool {
+fn run_in(e: Ends<'_>, name: &[u8], file: &[u8], asked: Asked) -> bool {
     match asked {
         Asked::List => table::list(e, name, file),
         Asked::Back(junction) => back_in(e, name, file, junction),
@@ -128,7 +130,7 @@ fn run_in(e: Ends, name: &[u8], file: &[u8], asked: Asked) -> bool {
 }
 
 // Reads a settings file; says so where it cannot be read.
-fn load(e: Ends, name: &[u8], bytes: &mut [u8]) -> Filled
+fn load(e: Ends<'_>, name: &[u8], bytes: &mut [u8]) -> Filled
     ensures { result.count ≤ length bytes.new }
 {
     let got = console::fill_from(e, name, bytes);
@@ -139,7 +141,7 @@ fn load(e: Ends, name: &[u8], bytes: &mut [u8]) -> Filled
 }
 
 // Puts a setting for a junction of the settings file of this name, and returns whether it could.
-pub fn put(e: Ends, name: &[u8], junction: u16, r: Record) -> bool {
+pub fn put(e: Ends<'_>, name: &[u8], junction: u16, r: Record) -> bool {
     let mut bytes = [0u8; MOST_BYTES];
     let got = load(e, name, &mut bytes);
     if got.error != 0 {
@@ -150,7 +152,7 @@ pub fn put(e: Ends, name: &[u8], junction: u16, r: Record) -> bool {
 }
 
 // Does what is asked of the settings file of this name but for a put, and returns whether it could.
-pub fn run(e: Ends, name: &[u8], asked: Asked) -> bool {
+pub fn run(e: Ends<'_>, name: &[u8], asked: Asked) -> bool {
     if let Asked::Nothing = asked {
         return false;
     }

@@ -29,7 +29,7 @@ fn first_of(code: u32, most: usize, junction: u16) -> u64 {
 }
 
 // Says what a call for a junction is refused for.
-pub(crate) fn refuse(e: Ends, name: &[u8], junction: u16, code: u32, back: bool) -> bool
+pub(crate) fn refuse(e: Ends<'_>, name: &[u8], junction: u16, code: u32, back: bool) -> bool
     ensures { result ≡ false }
 {
     let two = versions::version_two();
@@ -47,7 +47,7 @@ pub(crate) fn refuse(e: Ends, name: &[u8], junction: u16, code: u32, back: bool)
 }
 
 // Says what a put or a going back is refused for, and that the file is not changed.
-pub(crate) fn refuse_change(e: Ends, name: &[u8], junction: u16, code: u32, back: bool) -> bool
+pub(crate) fn refuse_change(e: Ends<'_>, name: &[u8], junction: u16, code: u32, back: bool) -> bool
     ensures { result ≡ false }
 {
     refuse(e, name, junction, code, back) || fail_as_it_was(e, name)
@@ -117,7 +117,7 @@ fn add_changed(
 
 // Says what is changed for a junction, whose settings are these then.
 pub(crate) fn say_changed(
-    e: Ends,
+    e: Ends<'_>,
     junction: u16,
     change: usize,
     current: Record,

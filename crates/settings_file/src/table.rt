@@ -8,7 +8,7 @@ use standard::Record;
 use words::{add_choice, add_left, add_numbers, add_right};
 
 // A junction: its current setting, and its previous one where one is kept; and where the next junction begins. None is found at the end.
-#[derive(Drop)]
+#[derive(Clone, Copy)]
 struct Row {
     found: bool,
     junction: u16,
@@ -89,14 +89,14 @@ fn add_row(text: &mut [u8], row: Row) -> usize
 }
 
 // Writes the line of a junction.
-fn write_row(e: Ends, row: Row) -> bool {
+fn write_row(e: Ends<'_>, row: Row) -> bool {
     let mut text = [0u8; 128];
     let at = add_row(&mut text, row);
     write(e, &text[0..at])
 }
 
 // How many junctions were listed, how many of them with a previous setting, and whether all could be.
-#[derive(Drop)]
+#[derive(Clone, Copy)]
 struct Listed {
     rows: usize,
     kept: usize,
@@ -104,7 +104,7 @@ struct Listed {
 }
 
 // Writes the lines of all junctions.
-fn write_rows(e: Ends, file: &[u8]) -> Listed
+fn write_rows(e: Ends<'_>, file: &[u8]) -> Listed
     ensures { (result.kept ≤ result.rows) × (result.rows ≤ length file.now) }
 {
     let mut rows = 0;
@@ -140,7 +140,7 @@ fn write_rows(e: Ends, file: &[u8]) -> Listed
 }
 
 // Writes the table of the settings file with these bytes, and says how many junctions it has.
-pub(crate) fn list(e: Ends, name: &[u8], file: &[u8]) -> bool {
+pub(crate) fn list(e: Ends<'_>, name: &[u8], file: &[u8]) -> bool {
     if !rules::is_file(file) {
         return refuse(e, name, 0, 22, false);
     }

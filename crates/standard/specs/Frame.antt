@@ -120,8 +120,8 @@ send_next st f =
 -- ---- receiving
 
 -- the sign and the Ucode in interval i of six octets
-abbrev pub sign_at_lem : List ℕ → ℕ → Bool
-sign_at_lem os i = sign_of (get_or os i 0)
+abbrev pub sign_at : List ℕ → ℕ → Bool
+sign_at os i = sign_of (get_or os i 0)
 
 abbrev pub ucode_at : Law → List ℕ → ℕ → ℕ
 ucode_at l os i = ucode_of l (get_or os i 0)
@@ -151,7 +151,7 @@ good r l os = eqb (mark r l os) 0
 -- a frame's D bits on the line as received, where the last sign was g: 'A marked frame .. feeds D zeros to the history'
 unfoldable pub heard_bits : Record → Law → Bool → List ℕ → List Bool
 heard_bits r l g os =
-    cond (good r l os) (sign_bits g (list_from (sign_at_lem os) 0 6) ++ bits_of (K r) (received_number r l os)) (replicate (D r) false)
+    cond (good r l os) (sign_bits g (list_from (sign_at os) 0 6) ++ bits_of (K r) (received_number r l os)) (replicate (D r) false)
 
 -- a frame received: the channel's choice, and its octets
 pub record Incoming : Type 0 where
@@ -195,7 +195,7 @@ unfoldable pub receive_next : Record → Law → LineState → Incoming → Line
 receive_next r l st y =
     record {
       history = push_all st.history (heard_data r l st y);
-      sign = sign_at_lem y.octets 5;
+      sign = sign_at y.octets 5;
       doubtful = doubtful_after (width r (controls st y.control)) (good r l y.octets) st.doubtful;
       place = next_place y.control st.place;
       done = next_done st y.control;

@@ -1,14 +1,15 @@
 // The types that the entries take and answer. What they mean is defined in specs/.
+#![tactic(auto)]
 
 // The PCM law of a circuit. It is fixed per circuit, outside CP.
-#[derive(Drop)]
+#[derive(Clone, Copy)]
 pub enum Law {
     Mu,
     A,
 }
 
 // The constellation parameters that CP carries. Mask m is two halves: element 2 m has Ucodes 0 to 63, element 2 m + 1 has Ucodes 64 to 127.
-#[derive(Drop)]
+#[derive(Clone, Copy)]
 pub struct Record {
     pub granted: bool,
     pub drn: u8,
@@ -19,7 +20,7 @@ pub struct Record {
 
 // The line state: the last 23 scrambled bits, the latest in weight 1, the last sign, and how many coming data bits are doubtful. Then the
 // control channel's: the frame place, the sequence place (control frames done), the sequence's 96 bits, and whether a frame of it was lost.
-#[derive(Drop)]
+#[derive(Clone, Copy)]
 pub struct LineState {
     pub history: u32,
     pub sign: bool,
@@ -31,7 +32,7 @@ pub struct LineState {
 }
 
 // The refusals 1 to 19, 22 to 24, 25 with the interval whose mask is empty, and 26 to 28.
-#[derive(Drop)]
+#[derive(Clone, Copy)]
 pub enum Refusal {
     CountExceedsBytes,
     CountTooSmall,
@@ -61,21 +62,21 @@ pub enum Refusal {
     SumExceedsCeiling,
 }
 
-#[derive(Drop)]
+#[derive(Clone, Copy)]
 pub enum Outcome {
     Done,
     Refused(Refusal),
 }
 
 // The answer of the CP reader. The record is all zero where the outcome is a refusal.
-#[derive(Drop)]
+#[derive(Clone, Copy)]
 pub struct CpRead {
     pub outcome: Outcome,
     pub record: Record,
 }
 
 // The answer of the CP writer. The bit count is 0 where the outcome is a refusal.
-#[derive(Drop)]
+#[derive(Clone, Copy)]
 pub struct CpWritten {
     pub outcome: Outcome,
     pub bit_count: usize,
@@ -83,7 +84,7 @@ pub struct CpWritten {
 
 // What the receiver says of the control sequence that ends in a call: its bits 16, 17 and 24 to 77, or why they are not to be had; nothing
 // where none ends.
-#[derive(Drop)]
+#[derive(Clone, Copy)]
 pub enum Said {
     Nothing,
     Sequence(u64),
@@ -93,14 +94,14 @@ pub enum Said {
 }
 
 // The answer of the frame sender, with the line state left.
-#[derive(Drop)]
+#[derive(Clone, Copy)]
 pub struct FramesDone {
     pub outcome: Outcome,
     pub state: LineState,
 }
 
 // The answer of the frame receiver, with the line state left.
-#[derive(Drop)]
+#[derive(Clone, Copy)]
 pub struct FramesRead {
     pub outcome: Outcome,
     pub state: LineState,
@@ -108,7 +109,7 @@ pub struct FramesRead {
 }
 
 // The answer of the sender of a CP and E_s, with the line state left. The octet count is 0 where the outcome is a refusal.
-#[derive(Drop)]
+#[derive(Clone, Copy)]
 pub struct CpSent {
     pub outcome: Outcome,
     pub octet_count: usize,
@@ -116,14 +117,14 @@ pub struct CpSent {
 }
 
 // The line state found from octets.
-#[derive(Drop)]
+#[derive(Clone, Copy)]
 pub struct StateFound {
     pub outcome: Outcome,
     pub state: LineState,
 }
 
 // The answer of the planner: M, the mask's halves and its sum of squared linear values. They are 0 where the outcome is a refusal.
-#[derive(Drop)]
+#[derive(Clone, Copy)]
 pub struct Planned {
     pub outcome: Outcome,
     pub points: u32,
@@ -132,7 +133,7 @@ pub struct Planned {
 }
 
 // A version of the settings file: the bytes of a start, the bytes of the count, the most junctions, and its version byte.
-#[derive(Drop)]
+#[derive(Clone, Copy)]
 pub struct Version {
     pub start: usize,
     pub count: usize,
@@ -141,7 +142,7 @@ pub struct Version {
 }
 
 // The answer of a put and of a going back: the length of the file written. It is 0 where the outcome is a refusal.
-#[derive(Drop)]
+#[derive(Clone, Copy)]
 pub struct FileWritten {
     pub outcome: Outcome,
     pub length: usize,

@@ -1,4 +1,6 @@
 // V.91 7.2 and 7.5: a CP and E_s on the line, an octet for each bit, and the line state found from the octets at their end.
+#![tactic(auto)]
+
 ghost use Rattle.std.specs.Prelude.{◌≡◌, ◌+◌, ◌^◌, ◌<◌, ◌≤◌, ltb, length};
 ghost use Rattle.standard.specs.First.{first};
 ghost use Rattle.standard.specs.Record.{top_index};

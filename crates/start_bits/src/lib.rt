@@ -1,4 +1,6 @@
 // V.91 7.2 and 7.5: bits on the line before data, an octet for each, and the history and the last sign found from 24 such octets.
+#![tactic(auto)]
+
 ghost use Rattle.std.specs.Prelude.{◌≡◌, ◌++◌, ◌+◌, ◌^◌, ◌<◌, length};
 ghost use Rattle.standard.specs.Bits.{bits_in};
 ghost use Rattle.standard.specs.Scrambler.{taps, push as pushBit};

@@ -1,4 +1,6 @@
 // What a line state is refused for.
+#![tactic(auto)]
+
 ghost use Rattle.std.specs.Prelude.{◌≡◌};
 ghost use Rattle.standard.specs.First.{first};
 ghost use Rattle.standard.specs.Refusals.{outcome_answer, state_tests};

@@ -1,4 +1,6 @@
 // A line state in bytes.
+#![tactic(auto)]
+
 ghost use Rattle.std.specs.Prelude.{◌≡◌, ◌<◌, ◌≤◌, length};
 ghost use Rattle.standard.specs.Lists.{list_from};
 ghost use Rattle.standard.specs.Calls.{over};

@@ -1,4 +1,6 @@
 // Data and octets of any length, call after call: the line state to begin in, how data is cut into frames, and their control sequences.
+#![tactic(auto)]
+
 ghost use Rattle.std.specs.Prelude.{◌≡◌, ℕ, ◌+◌, ◌*◌, ◌/◌, ◌%◌, ◌≤◌, ◌<◌};
 ghost use Rattle.standard.specs.Frame.{begun as begunWith, fresh, cold, is_control, width, call_bits};
 ghost use Rattle.streams.specs.Cut.{CutInto};
@@ -34,7 +36,9 @@ pub fn cold_state() -> LineState
     begun(24)
 }
 
-// The data bits of frame i of those that begin at a frame place: D, and K in a control frame.
+// The data bits of frame i of those that begin at a frame place: D, and K in a control frame. It stays a call: LLVM's vectors of the loop of
+// `cut_into` run past its early end.
+#[inline(never)]
 pub fn width_at(r: Record, control: bool, place: u8, i: usize) -> usize
     requires { (r.drn ≤ 28) × (i ≤ 1024) }
     ensures { (result ≡ width r (is_control control ((place + i) % 64))) × (14 ≤ result) × (result ≤ 48) }
@@ -60,7 +64,7 @@ pub fn bits_in(r: Record, control: bool, place: u8, frames: usize) -> usize
 }
 
 // Data cut into frames: how many, and the bits that fill no frame, or the zero bits that fill the last one.
-#[derive(Drop)]
+#[derive(Clone, Copy)]
 pub struct Cut {
     pub frames: usize,
     pub left: usize,
@@ -117,7 +121,7 @@ pub fn ending(place: u8, done: u8) -> usize
 }
 
 // Control sequences one after the other: how many are whole, and how many control frames there are of the one behind them.
-#[derive(Drop)]
+#[derive(Clone, Copy)]
 pub struct Sequences {
     pub whole: u64,
     pub more: u64,

@@ -1,4 +1,6 @@
 // V.90 Table 1 as printed. The codec does not read it: `pcm` makes octets and linear values by arithmetic.
+#![tactic(auto)]
+
 ghost use Rattle.std.specs.Prelude.{◌≡◌, ◌%◌, ◌^◌, ◌<◌};
 ghost use Rattle.standard.specs.Octets.{positive_octet, octet, magnitude};
 ghost use Rattle.table1.specs.Rows.{row_of};

@@ -5,7 +5,7 @@ use crate::{read_bytes, write_bytes};
 
 // A call: how many bytes it has, and how many calls are left with it, none where there is no line. A proved loop has to end, so `left`
 // counts down from a number that no run uses up.
-#[derive(Drop)]
+#[derive(Clone, Copy)]
 pub struct Call {
     pub length: usize,
     pub left: u64,

@@ -1,4 +1,6 @@
 // Text for programs: lines of standard input, bytes as lowercase hexadecimal digits, the magnitude of a signed number.
+#![tactic(auto)]
+
 pub mod calls;
 
 ghost use Rattle.std.specs.Prelude.{◌≡◌, cond, ◌+◌, ◌*◌, ◌/◌, ◌%◌, ◌^◌, ◌<◌, ◌≤◌, eqb, nat_abs, length};
@@ -7,14 +9,14 @@ ghost use Rattle.standard.specs.Calls.{over};
 ghost use Rattle.text.specs.Hex.{digit_value, digit_of, byte_in, char_of};
 
 // A line that was read: its length without the newline, and whether there was one.
-#[derive(Drop)]
+#[derive(Clone, Copy)]
 pub struct Line {
     pub length: usize,
     pub found: bool,
 }
 
 // A byte of standard input, or its end.
-#[derive(Drop)]
+#[derive(Clone, Copy)]
 enum Input {
     Byte(u8),
     End,

@@ -148,6 +148,6 @@ pub record ExamplesHold : Type 0 where
   -- B10: 'mark 7 never occurs', whatever the octets
   pub never_seven : (l : Law) (os : List ℕ) → mark full l os ≡ 7 → ⊥
   -- B10: 'one Ucode fewer gets 11', whichever Ucode and interval
-  pub one_fewer_lem : (r : Record) (i u : ℕ) → Fewer r i u → first (record_tests r) ≡ bare 11
+  pub one_fewer : (r : Record) (i u : ℕ) → Fewer r i u → first (record_tests r) ≡ bare 11
   -- A.8: 25 'with the lowest such interval'
   pub lowest_empty : first (record_tests empty_twice) ≡ valued 25 2

@@ -1,4 +1,6 @@
 // Bits from any place of a buffer on, whether they fill bytes or not, and the control channel's data in digits.
+#![tactic(auto)]
+
 ghost use Rattle.std.specs.Prelude.{◌≡◌, map, ◌+◌, ◌^◌, ◌≤◌, length};
 ghost use Rattle.standard.specs.Bits.{bit_at, bytes_of, field, odd, number_of};
 ghost use Rattle.unaligned.specs.Digits.{digits_of};

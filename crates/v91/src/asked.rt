@@ -4,14 +4,14 @@ use parts::Number;
 use standard::Law;
 
 // The law that a word names.
-#[derive(Drop)]
+#[derive(Clone, Copy)]
 pub(crate) enum Named {
     Is(Law),
     Unknown,
 }
 
 // The law that word k names; says so where it names none.
-pub(crate) fn law_at(e: Ends, words: &[u8], k: usize) -> Named {
+pub(crate) fn law_at(e: Ends<'_>, words: &[u8], k: usize) -> Named {
     let word = parts::nth_part(words, 0, k);
     match parts::which(b"mu\nulaw\na\nalaw\n", b'\n', word) {
         1 => Named::Is(Law::Mu),
@@ -45,7 +45,7 @@ pub(crate) const DIGITS: u32 = 128;
 const OTHER: u32 = 256;
 
 // What is asked: the words there are, a bit for each, and the number that the last word of digits says, the largest where there is none.
-#[derive(Drop)]
+#[derive(Clone, Copy)]
 pub(crate) struct Asked {
     pub(crate) words: u32,
     pub(crate) number: u64,

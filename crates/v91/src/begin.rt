@@ -22,7 +22,7 @@ fn octets_for(bit_count: usize) -> usize
 }
 
 // Sends the CP file that word 1 names, and E_s, in the law that word 2 names.
-pub(crate) fn start(e: Ends, words: &[u8]) -> bool {
+pub(crate) fn start(e: Ends<'_>, words: &[u8]) -> bool {
     let named = law_at(e, words, 2);
     let Named::Is(law) = named else {
         return false;
@@ -62,7 +62,7 @@ fn told_state(cold: bool) -> LineState {
 }
 
 // The line state in which a receiver begins, and whether it could be found.
-#[derive(Drop)]
+#[derive(Clone, Copy)]
 pub(crate) struct Begun {
     pub(crate) found: bool,
     pub(crate) state: LineState,
@@ -82,7 +82,7 @@ fn all_of_66(law: Law, octets: &[u8], at: usize) -> bool {
 
 // The line state found from the octets of a CP and E_s; says so. Where an octet that it is found from has another Ucode, the line has
 // altered some, and the receiver begins as a cold one.
-fn found_state(e: Ends, law: Law, cold: bool, octets: &[u8]) -> LineState
+fn found_state(e: Ends<'_>, law: Law, cold: bool, octets: &[u8]) -> LineState
     requires { length octets.now ≤ 984 }
 {
     let count = octets.len() as u64;
@@ -107,10 +107,10 @@ fn found_state(e: Ends, law: Law, cold: bool, octets: &[u8]) -> LineState
 }
 
 // Reads the octets of a CP and E_s, as many as there is room for, and finds the line state; says so where there are too few.
-fn read_start(e: Ends, law: Law, cold: bool, octets: &mut [u8]) -> Begun
+fn read_start(e: Ends<'_>, law: Law, cold: bool, octets: &mut [u8]) -> Begun
     requires { length octets.old ≤ 984 }
 {
-    let got = console::fill(e.input, octets);
+    let got = console::fill(e, e.input, octets);
     if got.error != 0 {
         return Begun {
             found: fail_system(e, got.error, b"cannot read standard input: ", b""),
@@ -138,7 +138,7 @@ fn read_start(e: Ends, law: Law, cold: bool, octets: &mut [u8]) -> Begun
 // The line state in which a receiver begins: the fresh or the cold one, or with `start` the one found from the octets before the data, those
 // of a CP of so many bits and E_s.
 pub(crate) fn receiver_state(
-    e: Ends,
+    e: Ends<'_>,
     bit_count: usize,
     law: Law,
     start: bool,

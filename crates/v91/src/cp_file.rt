@@ -58,7 +58,7 @@ fn first_of(number: u32) -> usize
 
 // Says what a CP file is refused for: what was found, and what a CP has. The numbers that can be told are the bytes of the file, the
 // largest index, the bytes of a CP with that, the interval of refusal 25, drn and K.
-fn say_refused(e: Ends, name: &[u8], sentence: usize, first: usize, values: &[u64])
+fn say_refused(e: Ends<'_>, name: &[u8], sentence: usize, first: usize, values: &[u64])
     requires { (first ≤ 6) × (length values.now ≡ 6) }
 {
     fail_choice(
@@ -84,7 +84,7 @@ fn say_refused(e: Ends, name: &[u8], sentence: usize, first: usize, values: &[u6
 }
 
 // Says what a CP file of so many bytes is refused for.
-fn refuse(e: Ends, name: &[u8], r: Record, count: usize, code: u32) {
+fn refuse(e: Ends<'_>, name: &[u8], r: Record, count: usize, code: u32) {
     let g = largest_index(r);
     let interval = code / 0x100_0000;
     let number = code % 256;
@@ -105,7 +105,7 @@ fn refuse(e: Ends, name: &[u8], r: Record, count: usize, code: u32) {
 }
 
 // A CP file that was read: whether it could be, its bit count and its record.
-#[derive(Drop)]
+#[derive(Clone, Copy)]
 pub(crate) struct Loaded {
     pub(crate) found: bool,
     pub(crate) bit_count: usize,
@@ -113,7 +113,7 @@ pub(crate) struct Loaded {
 }
 
 // Reads the CP of a file's first bytes; says what is wrong with it.
-fn load(e: Ends, name: &[u8], bytes: &[u8]) -> Loaded
+fn load(e: Ends<'_>, name: &[u8], bytes: &[u8]) -> Loaded
     requires { length bytes.now ≤ 4096 }
 {
     let count = bytes.len();
@@ -142,7 +142,7 @@ fn nothing() -> Loaded {
 }
 
 // Reads a CP file. Of a longer file the first 4,096 bytes are read: any length above 122 bytes gets the same refusal.
-pub(crate) fn load_file(e: Ends, name: &[u8]) -> Loaded {
+pub(crate) fn load_file(e: Ends<'_>, name: &[u8]) -> Loaded {
     let mut bytes = [0u8; 4096];
     let got = console::fill_from(e, name, &mut bytes);
     if got.error != 0 {
@@ -158,6 +158,6 @@ pub(crate) fn load_file(e: Ends, name: &[u8]) -> Loaded {
 }
 
 // Reads the CP file that word 1 names.
-pub(crate) fn load_cp(e: Ends, words: &[u8]) -> Loaded {
+pub(crate) fn load_cp(e: Ends<'_>, words: &[u8]) -> Loaded {
     load_file(e, parts::nth_part(words, 0, 1))
 }

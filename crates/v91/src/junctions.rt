@@ -4,7 +4,7 @@ use console::Ends;
 use settings_file::Asked;
 
 // Does with the settings file that word 1 names what the words after it ask for.
-pub(crate) fn settings(e: Ends, words: &[u8]) -> bool {
+pub(crate) fn settings(e: Ends<'_>, words: &[u8]) -> bool {
     let name = parts::nth_part(words, 0, 1);
     let asked = settings_file::asked_in(e, words);
     let Asked::Put(junction) = asked else {

@@ -1,6 +1,8 @@
 // The V.91 line codec at the command line, over the proved entries. `v91 help` says what it takes.
-// The language has no exit status: the program always ends with status 0. Its last line on standard error is `v91: ok` where all that was
-// asked is done, else `v91: failed`, and the lines before it say why; `bin/v91` ends with a status by that line.
+// The program always ends with status 0. Its last line on standard error is `v91: ok` where all that was asked is done, else `v91: failed`,
+// and the lines before it say why; `bin/v91` ends with a status by that line.
+#![tactic(auto)]
+
 mod asked;
 mod begin;
 mod cp_file;
@@ -10,10 +12,10 @@ mod planner;
 mod script;
 mod stream;
 
-use console::{Ends, fail, fail_name, has, tell, write};
+use console::{Ends, fail, fail_name, has, standard_ends, tell, write};
 
 // Says how the program is used.
-fn help(e: Ends) -> bool {
+fn help(e: Ends<'_>) -> bool {
     write(
         e,
         b"v91: the V.91 line codec
@@ -55,7 +57,7 @@ The last line on standard error is `v91: ok` or `v91: failed`; bin/v91 ends with
 }
 
 // Says that there is no such command.
-fn unknown(e: Ends, words: &[u8]) -> bool {
+fn unknown(e: Ends<'_>, words: &[u8]) -> bool {
     fail_name(
         e,
         b"there is no command @; v91 help says what there are",
@@ -71,7 +73,7 @@ pub(crate) fn command_of(words: &[u8]) -> usize {
 }
 
 // Runs a command, and returns whether all of it was done.
-pub(crate) fn run_command(e: Ends, words: &[u8], command: usize) -> bool {
+pub(crate) fn run_command(e: Ends<'_>, words: &[u8], command: usize) -> bool {
     match command {
         1 => has(e, words, 2, 2) && output::cp(e, words),
         2 => has(e, words, 3, 3) && begin::start(e, words),
@@ -92,7 +94,7 @@ pub(crate) fn run_command(e: Ends, words: &[u8], command: usize) -> bool {
 }
 
 // Runs the command line, or says how the program is used where it has no word.
-fn run_words(e: Ends, words: &[u8]) -> bool {
+fn run_words(e: Ends<'_>, words: &[u8]) -> bool {
     if words.len() == 0 {
         return help(e);
     }
@@ -104,9 +106,9 @@ fn run_words(e: Ends, words: &[u8]) -> bool {
 }
 
 // Runs the command of the command line.
-fn run_all(e: Ends) -> bool {
+fn run_all(e: Ends<'_>) -> bool {
     let mut text = [0u8; 16384];
-    let at = console::take_words(&mut text);
+    let at = console::take_words(e.rt, &mut text);
     if 16384 <= at {
         return fail(
             e,
@@ -117,13 +119,8 @@ fn run_all(e: Ends) -> bool {
     run_words(e, &text[0..at])
 }
 
-fn main() {
-    let e = Ends {
-        input: 0,
-        output: 1,
-        said: 2,
-        shows: libc::isatty(2) == 1,
-    };
+fn main(rt: HostRuntime) {
+    let e = standard_ends(rt);
     if run_all(e) {
         tell(e, b"ok", 0, 0);
     } else {

@@ -6,7 +6,7 @@ use description::{add_example, add_flip, add_record, example_record};
 use dil::{DIL_OCTETS, SEGMENT_SYMBOLS, SEGMENTS};
 
 // Describes the CP file that word 1 names.
-pub(crate) fn cp(e: Ends, words: &[u8]) -> bool {
+pub(crate) fn cp(e: Ends<'_>, words: &[u8]) -> bool {
     let loaded = load_cp(e, words);
     if !loaded.found {
         return false;
@@ -17,7 +17,7 @@ pub(crate) fn cp(e: Ends, words: &[u8]) -> bool {
 }
 
 // Says what one flipped sign costs with the CP file that word 1 names.
-pub(crate) fn flip(e: Ends, words: &[u8]) -> bool {
+pub(crate) fn flip(e: Ends<'_>, words: &[u8]) -> bool {
     let loaded = load_cp(e, words);
     if !loaded.found {
         return false;
@@ -32,7 +32,7 @@ pub(crate) fn flip(e: Ends, words: &[u8]) -> bool {
 }
 
 // Writes the default DIL in the law that word 1 names.
-pub(crate) fn dil(e: Ends, words: &[u8]) -> bool {
+pub(crate) fn dil(e: Ends<'_>, words: &[u8]) -> bool {
     let named = law_at(e, words, 1);
     let Named::Is(law) = named else {
         return false;
@@ -49,21 +49,21 @@ pub(crate) fn dil(e: Ends, words: &[u8]) -> bool {
 }
 
 // Shows the example.
-fn show(e: Ends) -> bool {
+fn show(e: Ends<'_>) -> bool {
     let mut text = [0u8; 8192];
     let at = add_example(&mut text, 0);
     write(e, &text[0..at])
 }
 
 // Writes the CP of the example.
-fn write_cp(e: Ends) -> bool {
+fn write_cp(e: Ends<'_>) -> bool {
     let mut bytes = [0u8; 37];
     cp::write_cp(example_record(), &mut bytes);
     write(e, &bytes)
 }
 
 // Shows the example, or writes its CP where word 1 is `cp`.
-pub(crate) fn demo(e: Ends, words: &[u8]) -> bool {
+pub(crate) fn demo(e: Ends<'_>, words: &[u8]) -> bool {
     if parts::part_count(words, 0) == 1 {
         return show(e);
     }

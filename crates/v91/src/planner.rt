@@ -9,7 +9,7 @@ use picture::Shown;
 use standard::{Law, Planned};
 
 // The number that word k says; says what is wanted where it says none.
-fn number_at(e: Ends, words: &[u8], k: usize, wanted: &[u8]) -> Number {
+fn number_at(e: Ends<'_>, words: &[u8], k: usize, wanted: &[u8]) -> Number {
     let word = parts::nth_part(words, 0, k);
     let number = parts::number_in(word);
     let Number::Is(n) = number else {
@@ -20,7 +20,7 @@ fn number_at(e: Ends, words: &[u8], k: usize, wanted: &[u8]) -> Number {
 }
 
 // The ceiling that word k says. No sum has more than 18 digits, so any longer number is as good as the largest.
-fn ceiling_at(e: Ends, words: &[u8], k: usize) -> Number {
+fn ceiling_at(e: Ends<'_>, words: &[u8], k: usize) -> Number {
     let word = parts::nth_part(words, 0, k);
     if parts::all_digits(word) & (18 < word.len()) {
         return Number::Is(u64::MAX);
@@ -29,7 +29,7 @@ fn ceiling_at(e: Ends, words: &[u8], k: usize) -> Number {
 }
 
 // The form that word 5 asks for: 1 for svg, 2 for cp, 3 where there is no such word; says so and returns 0 where it asks for another.
-fn form_at(e: Ends, words: &[u8]) -> usize {
+fn form_at(e: Ends<'_>, words: &[u8]) -> usize {
     if parts::part_count(words, 0) < 6 {
         return 3;
     }
@@ -46,7 +46,7 @@ fn form_at(e: Ends, words: &[u8]) -> usize {
 }
 
 // Says that no mask keeps the spacing, and which one is kept.
-fn refuse_spacing(e: Ends, k: u32, law: Law, spacing: u32) -> bool
+fn refuse_spacing(e: Ends<'_>, k: u32, law: Law, spacing: u32) -> bool
     requires { k ≤ 42 }
 {
     let points = choosing::points_for(k);
@@ -62,7 +62,7 @@ fn refuse_spacing(e: Ends, k: u32, law: Law, spacing: u32) -> bool
 }
 
 // Says that the least sum exceeds the ceiling, and which spacing is within it.
-fn refuse_ceiling(e: Ends, k: u32, law: Law, spacing: u32, ceiling: u64, word: &[u8]) -> bool {
+fn refuse_ceiling(e: Ends<'_>, k: u32, law: Law, spacing: u32, ceiling: u64, word: &[u8]) -> bool {
     let least = plan::plan(k, law, spacing, u64::MAX);
     let largest = plan::largest_spacing(k, law, ceiling);
     fail_choice(
@@ -76,21 +76,21 @@ fn refuse_ceiling(e: Ends, k: u32, law: Law, spacing: u32, ceiling: u64, word: &
 }
 
 // Writes the picture for text.
-fn write_text(e: Ends, s: Shown, ceiling: &[u8]) -> bool {
+fn write_text(e: Ends<'_>, s: Shown, ceiling: &[u8]) -> bool {
     let mut text = [0u8; 32768];
     let at = picture::add_text(&mut text, 0, s, ceiling);
     write(e, &text[0..at])
 }
 
 // Writes the picture as an SVG drawing.
-fn write_svg(e: Ends, s: Shown, ceiling: &[u8]) -> bool {
+fn write_svg(e: Ends<'_>, s: Shown, ceiling: &[u8]) -> bool {
     let mut text = [0u8; 65536];
     let at = picture::add_svg(&mut text, 0, s, ceiling);
     write(e, &text[0..at])
 }
 
 // Writes the CP of the record with a mask for all six intervals.
-fn write_cp(e: Ends, k: u32, mask: [u64; 2]) -> bool
+fn write_cp(e: Ends<'_>, k: u32, mask: [u64; 2]) -> bool
     requires { (15 ≤ k) × (k ≤ 42) }
 {
     let mut bytes = [0u8; 37];
@@ -99,12 +99,20 @@ fn write_cp(e: Ends, k: u32, mask: [u64; 2]) -> bool
 }
 
 // Says what was found, where it was written to a file.
-fn say_found(e: Ends, points: u32, sum: u64) -> bool {
+fn say_found(e: Ends<'_>, points: u32, sum: u64) -> bool {
     tell(e, b"M #, sum of squares #", points as u64, sum)
 }
 
 // Writes a plan in a form of `form_at`.
-fn write_plan(e: Ends, p: Planned, k: u32, law: Law, spacing: u32, form: usize, word: &[u8]) -> bool
+fn write_plan(
+    e: Ends<'_>,
+    p: Planned,
+    k: u32,
+    law: Law,
+    spacing: u32,
+    form: usize,
+    word: &[u8],
+) -> bool
     requires { (15 ≤ k) × (k ≤ 42) }
 {
     let mask = p.mask;
@@ -128,7 +136,7 @@ fn write_plan(e: Ends, p: Planned, k: u32, law: Law, spacing: u32, form: usize, 
 
 // Plans a mask, and writes it or says what it is refused for; `word` gave the ceiling.
 fn make_plan(
-    e: Ends,
+    e: Ends<'_>,
     k: u32,
     law: Law,
     spacing: u32,
@@ -149,7 +157,7 @@ fn make_plan(
 
 // Plans with a spacing that may be outside its range.
 fn plan_spacing(
-    e: Ends,
+    e: Ends<'_>,
     k: u32,
     law: Law,
     spacing: u64,
@@ -171,7 +179,7 @@ fn plan_spacing(
 
 // The same with a K that may be outside its range.
 fn plan_rate(
-    e: Ends,
+    e: Ends<'_>,
     k: u64,
     law: Law,
     spacing: u64,
@@ -186,7 +194,7 @@ fn plan_rate(
 }
 
 // Plans as the words ask: K, LAW, SPACING and CEILING, and then the form.
-pub(crate) fn plan(e: Ends, words: &[u8]) -> bool {
+pub(crate) fn plan(e: Ends<'_>, words: &[u8]) -> bool {
     let number = number_at(e, words, 1, b"K is a number from 15 to 42, not @");
     let Number::Is(k) = number else {
         return false;

@@ -3,7 +3,10 @@
 ghost use Rattle.std.specs.Prelude.{◌<◌, ◌≤◌, length};
 
 use crate::{command_of, run_command};
-use console::{Ends, fail, fail_name, fail_system, tell, write};
+use console::{
+    Ends, Sink, Source, fail, fail_name, fail_system, open_overwrite, open_read, tell, write,
+};
+use std::fs::File;
 
 // Puts a character of a line into `words` at place `at`, and returns the place after it; for a space a 0, where a character stands before.
 fn put_char(words: &mut [u8], at: usize, c: u8) -> usize {
@@ -58,57 +61,89 @@ fn command_end(words: &[u8], less: usize, more: usize) -> usize
     b
 }
 
-// Opens a file for reading or for writing.
-fn open_file(name: &[u8], reads: bool) -> i32 {
+// Opens a file for reading or for writing; the number of the error where it cannot be.
+fn open_file(e: Ends<'_>, name: &[u8], reads: bool) -> Result<File, i32> {
     if reads {
-        return os::open_read(name);
+        return open_read(e, name);
     }
-    os::open_overwrite(name)
+    open_overwrite(e, name)
 }
 
-// Opens the file behind the word of this number; the descriptor handed in where the number is 0.
-fn opened(e: Ends, words: &[u8], number: usize, reads: bool, otherwise: i32) -> i32 {
+// The file behind a word of a line, none where there is no such word, and whether it could be opened.
+#[derive(Drop)]
+struct Behind {
+    well: bool,
+    file: Option<File>,
+}
+
+// Opens the file behind the word of this number; none where the number is 0.
+fn opened(e: Ends<'_>, words: &[u8], number: usize, reads: bool) -> Behind {
     if number == 0 {
-        return otherwise;
+        return Behind {
+            well: true,
+            file: None,
+        };
     }
     let word = parts::nth_part(words, 0, number);
-    let fd = open_file(word, reads);
-    if fd < 0 {
-        fail_system(e, os::errno(), b"cannot open @: ", word);
+    match open_file(e, word, reads) {
+        Ok(file) => Behind {
+            well: true,
+            file: Some(file),
+        },
+        Err(error) => Behind {
+            well: fail_system(e, error, b"cannot open @: ", word),
+            file: None,
+        },
     }
-    fd
 }
 
 // Closes a file that was opened.
-fn close(number: usize, fd: i32) {
-    if number != 0 {
-        libc::close(fd);
+fn close(behind: Behind) {
+    drop(behind);
+}
+
+// What a command reads from with a file, or with none.
+fn source_of<'a>(from: &'a Behind, otherwise: Source<'a>) -> Source<'a> {
+    match &from.file {
+        Some(file) => Source::Opened(file),
+        None => otherwise,
+    }
+}
+
+// What a command writes to with a file, or with none.
+fn sink_of<'a>(to: &'a Behind, otherwise: Sink<'a>) -> Sink<'a> {
+    match &to.file {
+        Some(file) => Sink::Opened(file),
+        None => otherwise,
     }
 }
 
 // Runs the command in the words of a line, and returns whether all of it was done.
-fn run_words(e: Ends, words: &[u8]) -> bool {
+fn run_words(e: Ends<'_>, words: &[u8]) -> bool {
     let less = parts::which(words, 0, b"<");
     let more = parts::which(words, 0, b">");
     let end = command_end(words, less, more);
+    let from = opened(e, words, less, true);
+    let to = opened(e, words, more, false);
+    if !from.well | !to.well {
+        return false;
+    }
     let between = Ends {
-        input: opened(e, words, less, true, e.input),
-        output: opened(e, words, more, false, e.output),
+        rt: e.rt,
+        input: source_of(&from, e.input),
+        output: sink_of(&to, e.output),
         said: e.said,
         shows: false,
     };
-    if (between.input < 0) | (between.output < 0) {
-        return false;
-    }
     let command = command_of(&words[0..end]);
     let done = run_command(between, &words[0..end], command);
-    close(less, between.input);
-    close(more, between.output);
+    close(from);
+    close(to);
     done
 }
 
 // Shows a line and runs its command. A line with no word has none, and neither has one that begins with #.
-fn run_line(e: Ends, line: &[u8]) -> bool {
+fn run_line(e: Ends<'_>, line: &[u8]) -> bool {
     let mut words = [0u8; 1024];
     if !write(e, line) | !write(e, b"\n") {
         return false;
@@ -131,7 +166,7 @@ fn run_line(e: Ends, line: &[u8]) -> bool {
 }
 
 // Runs the commands of a text, one a line, and returns whether all of them were done.
-fn run_lines(e: Ends, text: &[u8]) -> bool {
+fn run_lines(e: Ends<'_>, text: &[u8]) -> bool {
     let count = parts::part_count(text, b'\n');
     let mut done = true;
     let mut k = 0;
@@ -158,7 +193,7 @@ fn end_line(text: &mut [u8], n: usize) -> usize
 }
 
 // Runs the commands of the file that word 1 names.
-pub(crate) fn run(e: Ends, words: &[u8]) -> bool {
+pub(crate) fn run(e: Ends<'_>, words: &[u8]) -> bool {
     let word = parts::nth_part(words, 0, 1);
     let mut text = [0u8; 32768];
     let got = console::fill_from(e, word, &mut text);
@@ -174,6 +209,7 @@ pub(crate) fn run(e: Ends, words: &[u8]) -> bool {
         );
     }
     let kept = Ends {
+        rt: e.rt,
         input: e.input,
         output: e.output,
         said: e.output,

@@ -10,7 +10,7 @@ use line::{Channel, Received, Sent};
 use streams::sequences_in;
 
 // Says how many frames were sent, and the bits that were not or the zero bits in the last frame.
-fn say_sent(e: Ends, s: Sent) -> bool {
+fn say_sent(e: Ends<'_>, s: Sent) -> bool {
     if s.left != 0 {
         return tell(
             e,
@@ -31,7 +31,7 @@ fn say_sent(e: Ends, s: Sent) -> bool {
 }
 
 // Says how many control sequences so many frames have whole, and the control frames of one that they do not.
-fn say_sequences(e: Ends, frames: u64) -> bool {
+fn say_sequences(e: Ends<'_>, frames: u64) -> bool {
     let s = sequences_in(frames);
     if s.more == 0 {
         return tell(e, b"# control sequence~ sent whole", s.whole, 0);
@@ -45,7 +45,7 @@ fn say_sequences(e: Ends, frames: u64) -> bool {
 }
 
 // Says what was sent where that is known, with its control sequences where the channel is on, and returns whether all of it was.
-fn sum_up_sent(e: Ends, s: Sent, control: bool) -> bool {
+fn sum_up_sent(e: Ends<'_>, s: Sent, control: bool) -> bool {
     let trouble = s.trouble;
     if !is_over(trouble) {
         say_sent(e, s);
@@ -82,7 +82,7 @@ fn channel_of(a: Asked) -> Channel {
 
 // Sends as the words ask: CPFILE, LAW, and then `exact`, `progress`, `start`, `control`, `cleardown`, `retrain` and BITS where they are
 // wanted.
-pub(crate) fn send(e: Ends, words: &[u8]) -> bool {
+pub(crate) fn send(e: Ends<'_>, words: &[u8]) -> bool {
     let named = law_at(e, words, 2);
     let Named::Is(law) = named else {
         return false;
@@ -114,14 +114,14 @@ pub(crate) fn send(e: Ends, words: &[u8]) -> bool {
 }
 
 // Says a sentence where the number is not 0.
-fn tell_some(e: Ends, number: u64, template: &[u8]) {
+fn tell_some(e: Ends<'_>, number: u64, template: &[u8]) {
     if number != 0 {
         tell(e, template, number, 0);
     }
 }
 
 // Says how many control frames so many frames have of a control sequence that they do not have whole.
-fn say_part(e: Ends, frames: u64) {
+fn say_part(e: Ends<'_>, frames: u64) {
     let s = sequences_in(frames);
     tell_some(
         e,
@@ -131,7 +131,7 @@ fn say_part(e: Ends, frames: u64) {
 }
 
 // Says what was received, with its last control sequence where the channel is on.
-fn say_received(e: Ends, s: Received, control: bool) {
+fn say_received(e: Ends<'_>, s: Received, control: bool) {
     let report = s.report;
     tell_some(e, s.untold, b"# more run~ of marked frames");
     tell(
@@ -161,7 +161,7 @@ fn say_received(e: Ends, s: Received, control: bool) {
 }
 
 // Whether all the bytes asked for came; says so where they did not.
-fn all_came(e: Ends, asked: bool, wanted: u64) -> bool {
+fn all_came(e: Ends<'_>, asked: bool, wanted: u64) -> bool {
     if !asked | (wanted == 0) {
         return true;
     }
@@ -169,7 +169,7 @@ fn all_came(e: Ends, asked: bool, wanted: u64) -> bool {
 }
 
 // Receives as the words ask: CPFILE, LAW, and then BYTES, `cold`, `control`, `start` and `progress` where they are wanted.
-pub(crate) fn receive(e: Ends, words: &[u8]) -> bool {
+pub(crate) fn receive(e: Ends<'_>, words: &[u8]) -> bool {
     let named = law_at(e, words, 2);
     let Named::Is(law) = named else {
         return false;
@@ -205,7 +205,7 @@ pub(crate) fn receive(e: Ends, words: &[u8]) -> bool {
 }
 
 // Writes linear samples as the words ask: LAW, and then `progress` where it is wanted.
-pub(crate) fn linear(e: Ends, words: &[u8]) -> bool {
+pub(crate) fn linear(e: Ends<'_>, words: &[u8]) -> bool {
     let named = law_at(e, words, 1);
     let Named::Is(law) = named else {
         return false;

@@ -1,5 +1,7 @@
 // The C interface: interop/v91.h declares these functions. What those of frames, of the CP and of the settings file do is in crates of
 // their own.
+#![tactic(auto)]
+
 ghost use Rattle.std.specs.Prelude.{◌≡◌};
 ghost use Rattle.standard.specs.Calls.{linear_call, linear_refusal, linear_samples};
 ghost use Rattle.codes.specs.Coded.{coded};

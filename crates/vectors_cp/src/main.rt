@@ -2,6 +2,8 @@
 // `00`, the bit count in eight bytes and the CP, which `refusal, record` answers; or `01`, a record and a buffer, which
 // `refusal, bit count in two bytes, buffer afterwards` answers. A refusal is its number (0 for none) and its value, a byte each. Numbers
 // have their low byte first, and a record is 105 bytes.
+#![tactic(auto)]
+
 ghost use Rattle.std.specs.Prelude.{◌≡◌, ◌≤◌, length};
 
 use cases::put_refusal;
@@ -29,7 +31,7 @@ fn answer_write(call: &[u8], reply: &mut [u8]) -> usize
     if reply.len() < end {
         return 0;
     }
-    bytes::copy(&call[105..call.len()], &mut reply[4..end]);
+    reply[4..end].copy_from_slice(&call[105..call.len()]);
     let written = cp::write_cp(forms::record_from(call), &mut reply[4..end]);
     let outcome = written.outcome;
     put_refusal(outcome, reply);

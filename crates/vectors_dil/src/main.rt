@@ -1,6 +1,8 @@
 // Prints the default DIL: for each training symbol a line `symbol PLACE TABLE GENERATED`, the symbol as printed and by the generator; then
 // for each law and length of the buffer lent a line `LAW LENGTH REFUSAL` and the whole buffer after the call, twelve octets a line. Before
 // the call byte i of the buffer is i modulo 251.
+#![tactic(auto)]
+
 use dil::SEGMENTS;
 use io::{print_decimal, print_hex, write_all};
 use standard::Law;

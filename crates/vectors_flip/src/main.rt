@@ -4,6 +4,8 @@
 // `07`, record, law, state, frame, interval, octets of N frames: answered by refusal, state, the bits buffer afterwards, 6 bytes for each
 // frame, and the marks buffer, of the octets as they are; the same of those with the sign in that interval of that frame flipped; and how
 // many data bits that changes, with their places, a byte each.
+#![tactic(auto)]
+
 ghost use Rattle.std.specs.Prelude.{◌≡◌, ◌+◌, ◌*◌, ◌<◌, ◌≤◌, length};
 
 use cases::{fill, law_of, put_refusal};
@@ -12,7 +14,7 @@ use standard::{FramesRead, Law, LineState, Record};
 use text::calls;
 
 // What the two runs of a call have in common.
-#[derive(Drop)]
+#[derive(Clone, Copy)]
 struct Setup {
     cp: Record,
     law: Law,
@@ -61,7 +63,7 @@ fn put_run(call: &[u8], marks: &mut [u8], reply: &mut [u8])
     let end = after - marks.len();
     let read = receive_into(setup_at(call), &call[130..], &mut reply[23..end], marks);
     put_left(read, reply);
-    bytes::copy(marks, &mut reply[end..after]);
+    reply[end..after].copy_from_slice(marks);
 }
 
 // Puts a place where the bit there changes, as far as there is room, and returns the place after what was put.

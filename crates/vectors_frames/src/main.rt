@@ -8,6 +8,8 @@
 // `03`, record, law, frames, state, choice, lengths of the bits buffer and the marks buffer, octets: by refusal, state, what is heard, both
 // buffers afterwards.
 // `04`, law, length of the samples buffer, octets: by refusal and samples, 4 bytes each in two's complement.
+#![tactic(auto)]
+
 ghost use Rattle.std.specs.Prelude.{◌+◌, ◌*◌, ◌<◌, ◌≤◌, length};
 
 use cases::{fill, law_of, put_refusal, two};
@@ -15,7 +17,7 @@ use standard::{FramesDone, FramesRead, Law, LineState, Outcome, Record};
 use text::calls;
 
 // What calls of the sender and of the receiver have in common.
-#[derive(Drop)]
+#[derive(Clone, Copy)]
 struct Setup {
     cp: Record,
     law: Law,
@@ -148,7 +150,7 @@ fn answer_receive(call: &[u8], reply: &mut [u8], marks: &mut [u8]) -> usize
         &mut marks[0..count],
     );
     put_read(done, reply);
-    bytes::copy(&marks[0..count], &mut reply[end..after]);
+    reply[end..after].copy_from_slice(&marks[0..count]);
     after
 }
 

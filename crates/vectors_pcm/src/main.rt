@@ -1,5 +1,7 @@
 // Prints V.90 Table 1, a line for each law, sign and Ucode: LAW SIGN UCODE TABLE OCTET VALUE LINEAR, with the octet as printed and by
 // arithmetic, the linear value as printed, and the signed sample by arithmetic.
+#![tactic(auto)]
+
 ghost use Rattle.std.specs.Prelude.{◌<◌};
 
 use io::{print_decimal, print_hex, write_all};

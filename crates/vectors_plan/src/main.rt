@@ -1,6 +1,8 @@
 // Prints plans: for each law and each K from 14 to 43 a line `K LAW largest SPACING`, the largest spacing that is accepted; then for each of
 // nine spacings a line `K LAW SPACING CEILING REFUSAL M SUM MASK` with the largest ceiling, and where that is accepted, with its sum as the
 // ceiling and with one less. The spacings are 0, 1, 16, 100, 600, the largest that is accepted, one more, 65535 and 65536.
+#![tactic(auto)]
+
 ghost use Rattle.std.specs.Prelude.{◌≤◌};
 
 use io::{print_decimal, print_hex, write_all};

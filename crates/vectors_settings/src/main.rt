@@ -4,6 +4,8 @@
 // `08`, junction, record, length of the buffer, file: a put, answered by refusal, the new file's length, buffer afterwards.
 // `09`, junction, length of the buffer, file: a going back, answered in the same way.
 // `0a`, junction, file: a look-up, answered by refusal and record.
+#![tactic(auto)]
+
 ghost use Rattle.std.specs.Prelude.{◌≤◌, ◌<◌, length};
 
 use cases::{fill, put_refusal, two};

@@ -3,6 +3,8 @@
 // refusal 2 (its number, 0 for none, and its value).
 // `05`, record, law, state, length of the octet buffer: answered by refusal, octet count in two bytes, state, octet buffer afterwards.
 // `06`, state, octets: by refusal and state.
+#![tactic(auto)]
+
 ghost use Rattle.std.specs.Prelude.{◌≤◌, length};
 
 use cases::{fill, law_of, put_refusal, two};

@@ -1,4 +1,6 @@
 // The versions of a settings file: which one a file has, which one it has after a put, and a file of each with no junction.
+#![tactic(auto)]
+
 ghost use Rattle.std.specs.Prelude.{◌≡◌, true, cond, [], ◌++◌, ◌-◌, ◌≤◌, take, replicate};
 ghost use Rattle.standard.specs.Settings.{version_one, version_two, version_in, version_for, file_of, trailer, is_file};
 
@@ -46,7 +48,7 @@ pub fn version_for(v: Version, junctions: usize) -> Version
 }
 
 // A settings file with no junction: the first `length` of these bytes, and zeros.
-#[derive(Drop)]
+#[derive(Clone, Copy)]
 pub struct Empty {
     pub bytes: [u8; 7],
     pub length: usize,

@@ -1,4 +1,6 @@
 // What a program says: messages from templates, the columns of a table, numbers in decimal. Nothing is read or written here.
+#![tactic(auto)]
+
 mod columns;
 
 ghost use Rattle.std.specs.Prelude.{◌≡◌, cond, [], ◌∷◌, map, ◌-◌, ◌≤◌, eqb, length, get_or};
