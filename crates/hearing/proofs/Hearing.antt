@@ -15,10 +15,10 @@ use Rattle.standard.specs.Lists.{list_from}
 use Rattle.standard.specs.First.{Test, test, first}
 use Rattle.standard.specs.Bits.{number_of, bits_of}
 use Rattle.standard.specs.Record.{K, D}
-use Rattle.standard.specs.Constellation.{member, label, sizes}
+use Rattle.standard.specs.Constellation.{member, label}
 use Rattle.standard.specs.Modulus.{number}
 use Rattle.standard.specs.Signs.{sign_bits}
-use Rattle.standard.specs.Frame.{outside_test, outside_tests, sign_at_lem, ucode_at, received_number, mark_tests, mark, heard_bits}
+use Rattle.standard.specs.Frame.{outside_test, outside_tests, sign_at, ucode_at, received_number, mark_tests, mark, heard_bits}
 use Rattle.standard.specs.declared.Law.{Law}
 use Rattle.standard.specs.declared.Record.{Record}
 use Rattle.standard.proofs.Lists.{length-list_from, get_d_list, list_from_is, list_from_ext}
@@ -142,12 +142,12 @@ module _ (r : Record) (l : Law) (os : List ℕ) where
     marked_bits h = rw (ne_eqb (mark r l os) 0 (λ (e : mark r l os ≡ 0). omega arith)) (sym (zero_number (D r)))
 
     -- as code joins them: the sign bits s below the number n
-    pub good-bits : mark r l os ≡ 0 → (s n : ℕ) → s ≡ number_of (sign_bits g (list_from (sign_at_lem os) 0 6)) → n ≡ received_number r l os
+    pub good-bits : mark r l os ≡ 0 → (s n : ℕ) → s ≡ number_of (sign_bits g (list_from (sign_at os) 0 6)) → n ≡ received_number r l os
         → received_number r l os < 2 ^ K r → r.drn ≤ 28 → bit_or s (n * 64 % 2 ^ 64) ≡ number_of (heard_bits r l g os)
     unfolding heard_bits
     good-bits e s n es en fits rate =
-        let six = sign_bits g (list_from (sign_at_lem os) 0 6) in
-        let long : length six ≡ 6 = length-sign_bits g (list_from (sign_at_lem os) 0 6) ∙ length-list_from (sign_at_lem os) 0 6 in
+        let six = sign_bits g (list_from (sign_at os) 0 6) in
+        let long : length six ≡ 6 = length-sign_bits g (list_from (sign_at os) 0 6) ∙ length-list_from (sign_at os) 0 6 in
         let low : s < 64 = rw es (rw long at (number_of-lt six)) in
         let high : n < 2 ^ 42 = rw en (lt_of_lt_of_le fits (pow_mono {i = K r} {j = 42} (omega arith))) in
         rw (eq-eqb (mark r l os) 0 e)

@@ -9,7 +9,7 @@ use lib.ListN.{length, take, drop, replicate, length-drop}
 use Rattle.standard.specs.Bits.{bits_in, bytes_of, nth, number_of, bits_of}
 use Rattle.standard.specs.Record.{K, D}
 use Rattle.standard.specs.Scrambler.{push_all, descramble}
-use Rattle.standard.specs.Frame.{is_control, next_place, width, sign_at_lem, good, heard_bits, Incoming, heard_control, heard_data, receive_frame}
+use Rattle.standard.specs.Frame.{is_control, next_place, width, sign_at, good, heard_bits, Incoming, heard_control, heard_data, receive_frame}
 use Rattle.standard.specs.Frame.{sequence_so_far, lost_so_far, doubtful_after, receive_next, six_in}
 use Rattle.standard.specs.declared.Law.{Law}
 use Rattle.standard.specs.declared.LineState.{LineState}
@@ -82,7 +82,7 @@ module _ (r : Record) (l : Law) (os : List ℕ) (m : Mapping) (em : m ≡ mappin
     lost_is false c isGood lost = refl
 
     pub received-state : (z : Carried) (cs : List ℕ) (isGood : Bool) → isGood ≡ good r l os
-        → z.past ≡ turned (push_all at.history (heard_data r l at y)) → z.sign ≡ sign_at_lem os 5
+        → z.past ≡ turned (push_all at.history (heard_data r l at y)) → z.sign ≡ sign_at os 5
         → z.doubtful ≡ doubtful_after k isGood x.doubtful → z.place ≡ next_place on x.place
         → z.done ≡ cond ctl ((x.done + 1) % 16) x.done
         → z.lost ≡ cond ctl (not isGood || (x.lost && not (eqb x.done 0))) x.lost

@@ -20,7 +20,7 @@ use Rattle.standard.specs.Signs.{signs_of, sign_bits}
 use Rattle.standard.specs.Octets.{octet, sign_of, ucode_of}
 use Rattle.standard.specs.Control.{judged}
 use Rattle.standard.specs.Frame.{is_control, next_place, width, data_bits, call_bits, controls, ends_in, Outgoing, sequence_sent}
-use Rattle.standard.specs.Frame.{control_bits, line_bits, frame_signs, frame_labels, frame_octets, send_frame, send_next, sign_at_lem, ucode_at}
+use Rattle.standard.specs.Frame.{control_bits, line_bits, frame_signs, frame_labels, frame_octets, send_frame, send_next, sign_at, ucode_at}
 use Rattle.standard.specs.Frame.{received_number, outside_test, outside_tests, mark_tests, mark, good, heard_bits, Incoming, heard_control}
 use Rattle.standard.specs.Frame.{heard_data, receive_frame, sequence_so_far, lost_so_far, said_in, doubtful_after, receive_next}
 use Rattle.standard.specs.Frame.{outgoing_frames, send_frames, send_after, six_in, incoming_frames, receive_frames, receive_marks}
@@ -67,10 +67,10 @@ signs_across st f ss h = sym (signs_append st.sign (take 6 (line_bits st f)) ss 
 
 -- and so back: those of a frame's octets, and of the signs that follow them
 pub sign-bits_across : (r : Record) (l : Law) (st : LineState) (y : Incoming) (ts : List Bool)
-    → sign_bits st.sign (list_from (sign_at_lem y.octets) 0 6) ++ sign_bits (receive_next r l st y).sign ts
-    ≡ sign_bits st.sign (list_from (sign_at_lem y.octets) 0 6 ++ ts)
+    → sign_bits st.sign (list_from (sign_at y.octets) 0 6) ++ sign_bits (receive_next r l st y).sign ts
+    ≡ sign_bits st.sign (list_from (sign_at y.octets) 0 6 ++ ts)
 unfolding receive_next list_from nth
-sign-bits_across r l st y ts = sym (bits-append st.sign (list_from (sign_at_lem y.octets) 0 6) ts 5 refl)
+sign-bits_across r l st y ts = sym (bits-append st.sign (list_from (sign_at y.octets) 0 6) ts 5 refl)
 
 -- ---- the line state, and of A.1 the sender's count
 
@@ -209,8 +209,8 @@ module _ (r : Record) (l : Law) (holds : Holds r) (g : Bool) (ss : List Bool) (l
     unfolding frame_octets
     octet-at = get_d_list (λ i. octet l (nth (frame_signs g ss) i) (point r i (get_or (frame_labels r ss) i 0))) 0 6 i h
 
-    sign_at : sign_at_lem os i ≡ nth (frame_signs g ss) i
-    sign_at = ap sign_of octet-at ∙ sign-back l (nth (frame_signs g ss) i) u named.below
+    sign_at_lem : sign_at os i ≡ nth (frame_signs g ss) i
+    sign_at_lem = ap sign_of octet-at ∙ sign-back l (nth (frame_signs g ss) i) u named.below
 
     ucode-at : ucode_at l os i ≡ u
     ucode-at = ap (ucode_of l) octet-at ∙ ucode-back l (nth (frame_signs g ss) i) u named.below
@@ -228,9 +228,9 @@ module _ (r : Record) (l : Law) (holds : Holds r) (g : Bool) (ss : List Bool) (l
       (sym (list_from_is (λ i. label r i (ucode_at l os i)) 0 6 (frame_labels r ss) six_labels (λ i h. sym (label_at i h))))
       ∙ number-labels (size r 0) (list_from (size r) 1 5) (number_of (drop 6 ss))
 
-  signs_are : list_from (sign_at_lem os) 0 6 ≡ frame_signs g ss
+  signs_are : list_from (sign_at os) 0 6 ≡ frame_signs g ss
   unfolding nth
-  signs_are = sym (list_from_is (sign_at_lem os) false 6 (frame_signs g ss) six_signs (λ i h. sym (sign_at i h)))
+  signs_are = sym (list_from_is (sign_at os) false 6 (frame_signs g ss) six_signs (λ i h. sym (sign_at_lem i h)))
 
   -- a frame as sent has mark 0
   pub frame-mark : mark r l (frame_octets r l g ss) ≡ 0
@@ -244,8 +244,8 @@ module _ (r : Record) (l : Law) (holds : Holds r) (g : Bool) (ss : List Bool) (l
       (sym (taken_append g g' (take 6 ss) (drop 6 ss) (omega (arith, length-take-le 6 ss (omega arith))))
       ∙ ap (taken g g') (take-append-drop 6 ss))
 
-  pub frame-sign : sign_at_lem (frame_octets r l g ss) 5 ≡ nth (frame_signs g ss) 5
-  frame-sign = sign_at 5 (lit< tt)
+  pub frame-sign : sign_at (frame_octets r l g ss) 5 ≡ nth (frame_signs g ss) 5
+  frame-sign = sign_at_lem 5 (lit< tt)
 
 -- ---- a frame sent from the state s, received
 
@@ -332,14 +332,14 @@ module _ (r : Record) (l : Law) where
   pub length-heard_bits : (g : Bool) (os : List ℕ) → length (heard_bits r l g os) ≡ D r
   unfolding heard_bits
   length-heard_bits g os =
-      let ts = sign_bits g (list_from (sign_at_lem os) 0 6) in
+      let ts = sign_bits g (list_from (sign_at os) 0 6) in
       let ns = bits_of (K r) (received_number r l os) in
       of_either (λ (xs : List Bool). length xs ≡ D r) (good r l os) {x = ts ++ ns}
       (omega (
         arith,
         length-append ts ns,
-        length-sign_bits g (list_from (sign_at_lem os) 0 6),
-        length-list_from (sign_at_lem os) 0 6,
+        length-sign_bits g (list_from (sign_at os) 0 6),
+        length-list_from (sign_at os) 0 6,
         length-bits_of (K r)
             (received_number r l os),
       ))

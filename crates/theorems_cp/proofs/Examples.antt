@@ -33,7 +33,7 @@ use Rattle.standard.proofs.Modulus.{within-list_from, number_lt}
 use Rattle.standard.proofs.Octets.{ucode-lt}
 use Rattle.standard.proofs.Frame.{mark-zero}
 use Rattle.theorems_cp.specs.Examples.{all, table, full, empty_twice, ExamplesHold}
-use Rattle.theorems_cp.proofs.Fewer.{one_fewer}
+use Rattle.theorems_cp.proofs.Fewer.{one_fewer_lem}
 
 rows_hold : all table ≡ true
 unfolding table list_from any largest parts joined each after first bit_at bits_in field bytes_of nth number_of bits_of top_index in_mask crc_step
@@ -79,6 +79,6 @@ examples =
     record {
       rows = rows_hold;
       never_seven = λ l os e. suc-ne-zero 6 (sym e ∙ never l os);
-      one_fewer_lem = one_fewer;
+      one_fewer = one_fewer_lem;
       lowest_empty = lowest_empty_lem;
     }

@@ -90,9 +90,9 @@ module _ (r : Record) (i u : ℕ) (fewer : Fewer r i u) where
   told : first stage ≡ bare 11
   told = first-append (empty_tests r) _ none ∙ sym (first_hit 11 (product_too_small r) [] too_small)
 
-  pub one_fewer : first (record_tests r) ≡ bare 11
+  pub one_fewer_lem : first (record_tests r) ≡ bare 11
   unfolding record_tests rate_tests
-  one_fewer =
+  one_fewer_lem =
       sym
       (first_skip _ _ fewer.indices
       (first_skip _ _ rate (first_skip _ _ granted (sym (first-left stage _ (rw told (lit< tt)) ∙ told)))))
@@ -153,7 +153,7 @@ module _ (i u : ℕ) where
 
   pub each_fewer : i < 6 → u < 128 → first (record_tests (lacking i u)) ≡ bare 11
   each_fewer h k =
-      one_fewer (lacking i u) i u
+      one_fewer_lem (lacking i u) i u
       (record {
         rate = refl;
         interval = h;

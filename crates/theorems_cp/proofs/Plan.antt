@@ -41,8 +41,8 @@ module _ (c : PlanCall) where
   abbrev lowest : ℕ → Bool
   lowest = lowest_mask c.law c.spacing M
 
-  abbrev too_few_lem : Bool
-  too_few_lem = no_mask c.k c.law c.spacing
+  abbrev too_few : Bool
+  too_few = no_mask c.k c.law c.spacing
 
   -- ---- what each test says
 
@@ -55,11 +55,11 @@ module _ (c : PlanCall) where
   test-inside e = let b = inside-le c.k c.spacing e in record { rate = b.0; spacing = b.1 }
 
   module _ (i : Inside c) where
-    fits-test : (m : ℕ → Bool) → Fits c m → too_few_lem ≡ false
+    fits-test : (m : ℕ → Bool) → Fits c m → too_few ≡ false
     unfolding no_mask
     fits-test m s = let e = mask-points c.law c.spacing M i.spacing.0 m s in rw e (le-ltb M M (omega arith))
 
-    lowest-fits : too_few_lem ≡ false → Fits c lowest
+    lowest-fits : too_few ≡ false → Fits c lowest
     unfolding no_mask
     lowest-fits e =
         let l = ltb-false (size_of lowest 128) M e in
@@ -69,7 +69,7 @@ module _ (c : PlanCall) where
           smallest = mask-smallest c.law c.spacing M;
         }
 
-    lowest-least : too_few_lem ≡ false → IsLeast c lowest
+    lowest-least : too_few ≡ false → IsLeast c lowest
     lowest-least e = record { suits = lowest-fits e; least = mask-least c.law c.spacing M i.spacing.0 }
 
     -- every least mask has the sum of this one
@@ -94,9 +94,9 @@ module _ (c : PlanCall) where
 
   says : Says (plan_refusal c).number
   unfolding plan_refusal plan_tests first sum_exceeds_ceiling
-  says = go (rate_or_spacing_outside c.k c.spacing) too_few_lem (sum_exceeds_ceiling c.k c.law c.spacing c.ceiling) refl refl refl
+  says = go (rate_or_spacing_outside c.k c.spacing) too_few (sum_exceeds_ceiling c.k c.law c.spacing c.ceiling) refl refl refl
     where
-      go : (x y z : Bool) → rate_or_spacing_outside c.k c.spacing ≡ x → too_few_lem ≡ y
+      go : (x y z : Bool) → rate_or_spacing_outside c.k c.spacing ≡ x → too_few ≡ y
           → sum_exceeds_ceiling c.k c.law c.spacing c.ceiling ≡ z
           → Says (cond x (bare 26) (cond y (bare 27) (cond z (bare 28) (bare 0)))).number
       go true y z p q r = λ i. true≢false (sym p ∙ inside-test i)
@@ -120,9 +120,9 @@ module _ (c : PlanCall) where
   module _ (i : Inside c) where
     says_no_mask : ((m : ℕ → Bool) → Fits c m → ⊥) → plan_refusal c ≡ bare 27
     unfolding plan_refusal plan_tests first
-    says_no_mask none = go too_few_lem refl
+    says_no_mask none = go too_few refl
       where
-        go : (b : Bool) → too_few_lem ≡ b → plan_refusal c ≡ bare 27
+        go : (b : Bool) → too_few ≡ b → plan_refusal c ≡ bare 27
         go true e = rw (inside-test i, e)
         go false e = absurd (none lowest (lowest-fits i e))
 
@@ -143,7 +143,7 @@ module _ (c : PlanCall) where
     inside : Inside c
     inside = (answers 0 e).0
 
-    found : too_few_lem ≡ false
+    found : too_few ≡ false
     found = let a = (answers 0 e).1 in fits-test inside a.0 a.1.suits
 
     mask_is : plan_mask c ≡ lowest

@@ -16,7 +16,7 @@ use Rattle.standard.specs.Scrambler.{push, push_all, descramble}
 use Rattle.standard.specs.Constellation.{member, label, sizes}
 use Rattle.standard.specs.Modulus.{number}
 use Rattle.standard.specs.Signs.{sign_bits}
-use Rattle.standard.specs.Frame.{sign_at_lem, ucode_at, received_number, outside_test, outside_tests, mark_tests, mark, good, heard_bits, Incoming}
+use Rattle.standard.specs.Frame.{sign_at, ucode_at, received_number, outside_test, outside_tests, mark_tests, mark, good, heard_bits, Incoming}
 use Rattle.standard.specs.Frame.{width, controls, heard_data, receive_frame, receive_next}
 use Rattle.standard.specs.declared.Law.{Law}
 use Rattle.standard.specs.declared.LineState.{LineState}
@@ -64,13 +64,13 @@ length_bit_errors k x u = length-descramble x.history (line_errors k x u) ∙ le
 -- the Ucodes of six octets are the same, and so are their signs but for those where u holds
 pub record Turned (l : Law) (u : ℕ → Bool) (os os' : List ℕ) : Type 0 where
   pub ucodes : (j : ℕ) → j < 6 → ucode_at l os' j ≡ ucode_at l os j
-  pub signs : (j : ℕ) → j < 6 → sign_at_lem os' j ≡ sign_at_lem os j ⊕ u j
+  pub signs : (j : ℕ) → j < 6 → sign_at os' j ≡ sign_at os j ⊕ u j
 
 abbrev pub no_sign : ℕ → Bool
 no_sign j = false
 
 turned_none : (l : Law) (os : List ℕ) → Turned l no_sign os os
-turned_none l os = record { ucodes = λ j h. refl; signs = λ j h. sym (xor_false (sign_at_lem os j)) }
+turned_none l os = record { ucodes = λ j h. refl; signs = λ j h. sym (xor_false (sign_at os j)) }
 
 module _ (r : Record) (l : Law) {u : ℕ → Bool} {os os' : List ℕ} (t : Turned l u os os') where
   number_same : received_number r l os' ≡ received_number r l os
@@ -91,18 +91,18 @@ module _ (r : Record) (l : Law) {u : ℕ → Bool} {os os' : List ℕ} (t : Turn
   good-same : good r l os' ≡ good r l os
   good-same = ap (λ (n : ℕ). eqb n 0) mark-same
 
-  signs_mixed : list_from (sign_at_lem os') 0 6 ≡ mix (list_from (sign_at_lem os) 0 6) (list_from u 0 6)
+  signs_mixed : list_from (sign_at os') 0 6 ≡ mix (list_from (sign_at os) 0 6) (list_from u 0 6)
   unfolding list_from
-  signs_mixed = list_from_ext (sign_at_lem os') (λ j. sign_at_lem os j ⊕ u j) 6 t.signs
+  signs_mixed = list_from_ext (sign_at os') (λ j. sign_at os j ⊕ u j) 6 t.signs
 
   heard_mixed : (g : Bool) (x : Errors) → good r l os ≡ true
       → heard_bits r l (g ⊕ x.sign) os' ≡ mix (heard_bits r l g os) (line_errors (K r) x u)
   unfolding heard_bits
   heard_mixed g x k =
-      let ts = list_from (sign_at_lem os) 0 6 in
+      let ts = list_from (sign_at os) 0 6 in
       let us = list_from u 0 6 in
       let ns = bits_of (K r) (received_number r l os) in
-      let six : length ts ≡ length us = length-list_from (sign_at_lem os) 0 6 ∙ sym (length-list_from u 0 6) in
+      let six : length ts ≡ length us = length-list_from (sign_at os) 0 6 ∙ sym (length-list_from u 0 6) in
       rw (good-same, k, number_same)
       (ap (λ (b : List Bool). b ++ ns) (ap (sign_bits (g ⊕ x.sign)) signs_mixed ∙ signs_linear g x.sign ts us six)
       ∙ ap (λ (b : List Bool). mix (sign_bits g ts) (sign_bits x.sign us) ++ b) (sym (mix_zeros ns (K r)))

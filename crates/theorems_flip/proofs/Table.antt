@@ -31,18 +31,18 @@ errors_left k i = after (next_errors k) none (sign_errors k i)
 abbrev pub expected : ℕ → ℕ → List Bool
 expected k i = list_from (changes k i) 0 ((frames_after k i + 1) * (k + 6))
 
-abbrev same_bits_lem : List Bool → List Bool → Bool
-same_bits_lem [] [] = true
-same_bits_lem [] (y ∷ ys) = false
-same_bits_lem (x ∷ xs) [] = false
-same_bits_lem (x ∷ xs) (y ∷ ys) = beq x y && same_bits_lem xs ys
+abbrev same_bits : List Bool → List Bool → Bool
+same_bits [] [] = true
+same_bits [] (y ∷ ys) = false
+same_bits (x ∷ xs) [] = false
+same_bits (x ∷ xs) (y ∷ ys) = beq x y && same_bits xs ys
 
-same→eq : (xs ys : List Bool) → T (same_bits_lem xs ys) → xs ≡ ys
+same→eq : (xs ys : List Bool) → T (same_bits xs ys) → xs ≡ ys
 same→eq [] [] t = refl
 same→eq [] (y ∷ ys) t = absurd t
 same→eq (x ∷ xs) [] t = absurd t
 same→eq (x ∷ xs) (y ∷ ys) t =
-    ap₂ ◌∷◌ (beq→eq x y (and_left (beq x y) (same_bits_lem xs ys) t)) (same→eq xs ys (and_right (beq x y) (same_bits_lem xs ys) t))
+    ap₂ ◌∷◌ (beq→eq x y (and_left (beq x y) (same_bits xs ys) t)) (same→eq xs ys (and_right (beq x y) (same_bits xs ys) t))
 
 -- ---- the table
 
@@ -53,7 +53,7 @@ abbrev counted : ℕ → ℕ → Bool
 counted k i = eqb (length (changed_places k i)) (cost k i) && eqb (last_or 0 (changed_places k i)) (next_sign k i + 23)
 
 abbrev row : ℕ → ℕ → Bool
-row k i = same_bits_lem (errors_in k i) (expected k i) && (left_none k i && counted k i)
+row k i = same_bits (errors_in k i) (expected k i) && (left_none k i && counted k i)
 
 -- K from 15 to 42, and each interval
 table : T (every (λ n. every (row (15 + n)) 6) 28)
@@ -67,11 +67,11 @@ module _ (k i : ℕ) (lo : 15 ≤ k) (hi : k ≤ 42) (h : i < 6) where
       rw e at (every_at (row (15 + (k - 15))) 6 (every_at (λ n. every (row (15 + n)) 6) 28 table (k - 15) (omega arith)) i h)
 
   at_left : T (left_none k i)
-  at_left = and_left (left_none k i) _ (and_right (same_bits_lem (errors_in k i) (expected k i)) _ at_row)
+  at_left = and_left (left_none k i) _ (and_right (same_bits (errors_in k i) (expected k i)) _ at_row)
 
   -- the bits that change
   pub errors_are : errors_in k i ≡ expected k i
-  errors_are = same→eq (errors_in k i) (expected k i) (and_left (same_bits_lem (errors_in k i) (expected k i)) _ at_row)
+  errors_are = same→eq (errors_in k i) (expected k i) (and_left (same_bits (errors_in k i) (expected k i)) _ at_row)
 
   -- after them nothing is the other way
   pub none_left : errors_left k i ≡ none
@@ -81,7 +81,7 @@ module _ (k i : ℕ) (lo : 15 ≤ k) (hi : k ≤ 42) (h : i < 6) where
       (beq→eq (errors_left k i).sign false (and_right (eqb (errors_left k i).history 0) _ at_left))
 
   at_counted : T (counted k i)
-  at_counted = and_right (left_none k i) _ (and_right (same_bits_lem (errors_in k i) (expected k i)) _ at_row)
+  at_counted = and_right (left_none k i) _ (and_right (same_bits (errors_in k i) (expected k i)) _ at_row)
 
   -- 'Exactly six', or four
   pub places-many : length (changed_places k i) ≡ cost k i

@@ -58,7 +58,7 @@ pub added-both : {s : List ℕ} {at : ℕ} {xs ys t u : List ℕ} {m end : ℕ} 
     → Added s at (xs ++ ys) u end
 unfolding added place_after
 added-both {xs = []} a b = rw (a.place, a.text) at b
-added-both {s} {at} {xs = c ∷ cs} {ys} {t} {u} {m} {end} a b = go (λ p. added-both p b) (dec_le (length s) at)
+added-both {s} {at} {xs = c ∷ cs} {ys} {t} {u} {m} {end} a b = go (λ p. added-both {s = set s at c} {at = at + 1} {xs = cs} p b) (dec_le (length s) at)
   where
     go : (Added (set s at c) (at + 1) cs t m → Added (set s at c) (at + 1) (cs ++ ys) u end) → Dec (length s ≤ at)
         → Added s at (c ∷ cs ++ ys) u end

@@ -1,0 +1,11 @@
+-- `dil::put_segment` meets its contract. The loop's invariant: the first k places hold the segment's first k symbols. Assumes nothing.
+use Prim.Native.Nat.{◌-◌, ◌≤◌}
+use Rattle.standard.proofs.Dil.{symbol_of}
+use Rattle.standard.proofs.Filling.{Filled}
+use Rattle.dil.proofs.put_segment.Given as goal
+
+abbrev pub invariant-loop-k : goal.invariant-loop-k
+invariant-loop-k l = (l.k ≤ 12) × Filled (symbol_of l.law l.training) 12 l.octets l.k
+
+abbrev pub decreases-loop-k : goal.decreases-loop-k
+decreases-loop-k l = 12 - l.k

@@ -1,0 +1,56 @@
+-- Each entry below is counted. Assumes nothing.
+use mathlib.Core.Path.{ap, ◌∙◌}
+use mathlib.Core.Bool.{cond}
+use Prim.Native.Nat.{ℕ, ◌+◌, ◌≤◌}
+use native.Mathlib.Omega.{arith}
+use lib.ListN.{length, get_or}
+use lib.Dec.{ltb}
+use Rattle.standard.specs.Settings.{entry_at}
+use Rattle.entries.proofs.Sums.{sum-start, sum_more, sum_room, sum-all, below_one, adds_below}
+use Rattle.entries.proofs.count_below.Invariants.{counted}
+use Rattle.entries.proofs.count_below.Goals as goal
+
+-- the entry that a turn looks at is there
+room : (c : goal.In-loop-i)
+    → c.loop-i.at + 4 + get_or c.args.s.now (c.loop-i.at + 3) 0
+    + c.args.w ≤ length c.args.s.now
+room c =
+    let a = c.args in
+    let l = c.loop-i in
+    sum_room a.w a.s.now 0 a.n (counted a.j) (below_one a.j) 1 l.at l.found l.i l.invariant (omega arith)
+
+-- the entry that a turn looks at is there
+room_2 : (c : goal.After-one_if-found)
+    → c.loop-i.at + 4 + get_or c.args.s.now (c.loop-i.at + 3) 0
+    + c.args.w ≤ length c.args.s.now
+room_2 c =
+    let a = c.args in
+    let l = c.loop-i in
+    sum_room a.w a.s.now 0 a.n (counted a.j) (below_one a.j) 1 l.at l.found l.i l.invariant (omega arith)
+
+pub loop-i-init : goal.loop-i-init
+loop-i-init c = let a = c.args in sum-start a.w a.s.now 0 a.n (counted a.j) (below_one a.j) 1 c.requires.n_value
+
+pub number_at-requires : goal.number_at-requires
+number_at-requires c = omega (arith, room c)
+
+pub next_at-at-requires : goal.next_at-at-requires
+next_at-at-requires c = room_2 c
+
+pub loop-i-preserved : goal.loop-i-preserved
+unfolding entry_at
+loop-i-preserved c =
+    let one = c.one_if-found.ensures in
+    let a = c.args in
+    let l = c.loop-i in
+    sum_more a.w a.s.now 0 a.n (counted a.j) (below_one a.j) 1 l.at l.found l.i l.invariant (adds_below a.j)
+    (omega arith) _ _ (one.value ∙ ap (λ (x : ℕ). cond (ltb x a.j) 1 0) c.number_at.ensures.value) one.upper_bound c.next_at-at.ensures.0
+
+pub returns : goal.returns
+returns c =
+    let a = c.args in
+    let l = c.loop-i in record {
+      value = sum-all a.w a.s.now 0 a.n (counted a.j) (below_one a.j) 1 l.at l.found l.i l.invariant (adds_below a.j)
+          (omega arith);
+      upper_bound = omega (arith, l.invariant.few, l.invariant.done);
+    }

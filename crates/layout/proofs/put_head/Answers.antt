@@ -1,0 +1,16 @@
+-- Each field is put at its place, after the indices. Assumes nothing.
+use Rattle.standard.specs.Cp.{head_fields}
+use Rattle.layout.specs.Writing.{put_fields}
+use Rattle.layout.proofs.put_head.Goals as goal
+
+pub returns : goal.returns
+unfolding put_fields head_fields
+returns c =
+    rw (
+      c.put_field.ensures,
+      c.put_flag-3.ensures,
+      c.put_flag-2.ensures,
+      c.put_byte_field.ensures,
+      c.put_flag.ensures,
+      c.put_indices.ensures,
+    )

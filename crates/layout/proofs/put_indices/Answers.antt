@@ -1,0 +1,16 @@
+-- Each index is put at its place. Assumes nothing.
+use Rattle.standard.specs.Cp.{head_fields}
+use Rattle.layout.specs.Writing.{put_fields}
+use Rattle.layout.proofs.put_indices.Goals as goal
+
+pub returns : goal.returns
+unfolding put_fields head_fields
+returns c =
+    rw (
+      c.put_byte_field-6.ensures,
+      c.put_byte_field-5.ensures,
+      c.put_byte_field-4.ensures,
+      c.put_byte_field-3.ensures,
+      c.put_byte_field-2.ensures,
+      c.put_byte_field.ensures,
+    )
