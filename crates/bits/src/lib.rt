@@ -6,6 +6,7 @@ ghost use Rattle.standard.specs.Bits.{weight, bit, bit_at, field, bytes_for};
 ghost use Rattle.bits.specs.PutField.{word_with, put_field, Holds, holding, filling};
 
 // Bit n of the bytes; 0 past their end.
+// Places, widths and bit numbers are parameters with clauses, here and below: each call has others, so a type of them would be made for it.
 pub fn bit_at(bytes: &[u8], n: usize) -> bool
     ensures { result ≡ bit_at bytes.now n }
 {
@@ -16,31 +17,22 @@ pub fn bit_at(bytes: &[u8], n: usize) -> bool
     false
 }
 
-// A byte as a wider number.
-pub fn wide(byte: u8) -> u64
-    ensures { (result ≡ byte) × (result < 256) }
-{
-    byte as u64
-}
-
 // A number of k bytes with one byte more, on top.
 fn with_byte(word: u64, k: usize, byte: u8) -> u64
     requires { (k < 8) × (word < 2 ^ (8 * k)) }
     ensures { (result ≡ byte * 2 ^ (8 * k) + word) × (byte < 256) }
 {
-    word | (wide(byte) << (8 * k))
+    word | (u64::from(byte) << (8 * k))
 }
 
-// The k bytes from byte i on, as a number.
+// The k bytes from byte i on, as a number. `from_le_bytes` would take eight, and no fewer.
 fn bytes_at(bytes: &[u8], i: usize, k: usize) -> u64
     requires { (k ≤ 8) × (i + k ≤ length bytes.now) }
     ensures { result ≡ field (bit_at bytes.now) (8 * i) (8 * k) }
 {
     let mut word: u64 = 0;
-    let mut j = 0;
-    while j < k {
+    for j in 0..k {
         word = with_byte(word, j, bytes[i + j]);
-        j += 1;
     }
     word
 }
@@ -73,10 +65,8 @@ fn field_by_bits(bytes: &[u8], at: usize, width: usize) -> u64
     ensures { result ≡ field (bit_at bytes.now) at width }
 {
     let mut value: u64 = 0;
-    let mut done = 0;
-    while done < width {
-        done += 1;
-        let b = bit_at(bytes, at + (width - done));
+    for i in (0..width).rev() {
+        let b = bit_at(bytes, at + i);
         value = 2 * value + b as u64;
     }
     value
@@ -105,6 +95,7 @@ fn word_with(word: u64, shift: usize, width: usize, value: u64) -> u64
 }
 
 // The lowest byte of a number.
+// An `as` alone has to fit its type, so the remainder is written out.
 fn low_byte(word: u64) -> u8
     ensures { result ≡ word % 256 }
 {
@@ -124,10 +115,8 @@ pub fn put_bytes(bytes: &mut [u8], i: usize, k: usize, word: u64)
     requires { (k ≤ 8) × (i + k ≤ length bytes.old) }
     ensures { bytes.new ≡ put_field bytes.old (8 * i) (8 * k) word }
 {
-    let mut j = 0;
-    while j < k {
+    for j in 0..k {
         put_byte(bytes, i + j, word >> (8 * j));
-        j += 1;
     }
 }
 
@@ -145,7 +134,7 @@ fn put_bit(bytes: &mut [u8], n: usize, value: u64)
     ensures { bytes.new ≡ put_field bytes.old n 1 value }
 {
     let at = n / 8;
-    let word = wide(bytes[at]);
+    let word = u64::from(bytes[at]);
     put_byte(bytes, at, word_with(word, n % 8, 1, value));
 }
 
@@ -154,10 +143,8 @@ fn put_by_bits(bytes: &mut [u8], at: usize, width: usize, value: u64)
     requires { (width ≤ 64) × (at ≤ 2 ^ 32) × (at + width ≤ 8 * length bytes.old) }
     ensures { bytes.new ≡ put_field bytes.old at width value }
 {
-    let mut i = 0;
-    while i < width {
+    for i in 0..width {
         put_bit(bytes, at + i, value >> i);
-        i += 1;
     }
 }
 

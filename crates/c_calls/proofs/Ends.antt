@@ -1,44 +1,24 @@
 -- An outcome in one number, and the end of a call of frames. Assumes nothing.
-use mathlib.Core.Path.{◌≡◌, refl, sym, ap, ◌∙◌}
+use mathlib.Core.Path.{◌≡◌, refl, sym, ◌∙◌}
 use mathlib.Core.Logic.{◌⊎◌, inl, inr}
 use Prim.Native.Nat.{ℕ, ◌≤◌, ◌<◌}
-use mathlib.Core.Bool.{Bool, true, false, true≢false, not, ◌&&◌, ◌||◌, and-eq-true_iff}
+use mathlib.Core.Bool.{Bool, true, false, true≢false, ◌||◌}
 use mathlib.Core.List.{List, [], ◌∷◌, ◌++◌}
 use native.Mathlib.Nat.{eq-zero-or-pos}
-use native.Mathlib.Omega.{arith}
-use borrow.Author.Tests.{ltb-false, eqb-true, eq-eqb, not-true}
-use lib.Dec.{T, eqb, ltb}
+use borrow.Author.Tests.{ltb-false, eq-eqb}
+use lib.Dec.{T, ltb}
 use lib.ListN.{length}
+use Rattle.std.specs.Prelude.{Result, Ok, Err, IfOk}
 use Rattle.standard.specs.First.{Answer, bare, Test, test, first}
 use Rattle.standard.specs.Refusals.{outcome_answer}
-use Rattle.standard.specs.Calls.{accepted, over}
-use Rattle.standard.specs.declared.LineState.{LineState}
-use Rattle.standard.specs.declared.Outcome.{Outcome}
-use Rattle.standard.specs.declared.Outcome.TheVariants.{Done, Refused}
+use Rattle.standard.specs.Calls.{accepted}
+use Rattle.standard.specs.declared.Refusal.{Refusal}
 use Rattle.standard.proofs.Lists.{or-none}
-use Rattle.standard.proofs.First.{numbered, none_first, first-append, first-left}
-use Rattle.standard.proofs.Stages.{refused_not}
-use Rattle.codes.specs.Coded.{coded}
+use Rattle.standard.proofs.First.{numbered, first-append, first-left}
+use Rattle.standard.proofs.Stages.{refused_not, done_none}
 use Rattle.forms.specs.RecordBytes.{record_length}
-use Rattle.states.specs.StateBytes.{state_length, state_bytes}
-use Rattle.c_calls.specs.Answered.{answered, frame_answer, state_left, then_short}
-
--- ---- an outcome in one number: 0 where nothing is refused, and only there
-
-module _ (o : Outcome) (k : ℕ) (ek : k ≡ coded (outcome_answer o)) where
-  pub code_done : k ≡ 0 → accepted (outcome_answer o) ≡ true
-  code_done z = eq-eqb (outcome_answer o).number 0 (omega arith)
-
-  pub code_refused : (k ≡ 0 → ⊥) → accepted (outcome_answer o) ≡ false
-  code_refused p = go o refl
-    where
-      go : (x : Outcome) → x ≡ o → accepted (outcome_answer o) ≡ false
-      go Done e = absurd (p (ek ∙ ap (λ (y : Outcome). coded (outcome_answer y)) (sym e)))
-      go (Refused x) e = refused_not o x (outcome_answer o) (sym e) refl
-
-pub coded-zero : (o : Outcome) → accepted (outcome_answer o) ≡ true → coded (outcome_answer o) ≡ 0
-coded-zero Done e = refl
-coded-zero (Refused x) e = absurd (true≢false (sym e ∙ refused_not (Refused x) x _ refl refl))
+use Rattle.states.specs.StateBytes.{state_length}
+use Rattle.c_calls.specs.Answered.{frame_answer, then_short}
 
 -- a list of tests that refuses
 refused_first : (ts : List Test) → accepted (first ts) ≡ false → 0 < (first ts).number
@@ -50,63 +30,26 @@ refused_first ts e = go (eq-zero-or-pos (first ts).number)
 
 -- ---- an entry's tests with 17 behind them, for a buffer to be written
 
-module _ (ts : List Test) (t : T (numbered ts)) (short : Bool) (o : Outcome) (eo : outcome_answer o ≡ first ts) (k : ℕ)
-    (ek : k ≡ coded (outcome_answer o)) where
+module _ {X : Type 0} (ts : List Test) (t : T (numbered ts)) (short : Bool) (o : Result X Refusal) (eo : outcome_answer o ≡ first ts) where
   abbrev then17 : Answer
   then17 = first (ts ++ (test 17 short ∷ []))
 
-  pub then_refused : (k ≡ 0 → ⊥) → then17 ≡ outcome_answer o
-  then_refused p = first-left ts _ (refused_first ts (ap accepted (sym eo) ∙ code_refused o k ek p)) ∙ sym eo
+  pub then_refused : {x : Refusal} → o ≡ Err x → then17 ≡ outcome_answer o
+  then_refused {x} p = first-left ts _ (refused_first ts (refused_not o x (first ts) p eo)) ∙ sym eo
 
-  pub then_own : k ≡ 0 → then17 ≡ first (test 17 short ∷ [])
-  then_own z = first-append ts _ (none_first ts t (eqb-true _ 0 (ap accepted (sym eo) ∙ code_done o k ek z)))
-
--- ---- the end of a call
-
--- the end of a call of n frames with the outcome o: the bytes s of the line state after it
-abbrev pub Ended : Outcome → ℕ → LineState → List ℕ → List ℕ → Type 0
-Ended o n left state s = s ≡ answered (outcome_answer o) (state_left n left state) (λ k. state)
-
-module _ (o : Outcome) (k : ℕ) (ek : k ≡ coded (outcome_answer o)) (n : ℕ) (left : LineState) (state : List ℕ) where
-  pub end-put : (eqb k 0 && not (eqb n 0)) ≡ true → (0 ≡ coded (outcome_answer o)) × Ended o n left state (over (state_bytes left) state)
-  unfolding answered state_left
-  end-put t =
-      let p = (and-eq-true_iff (eqb k 0) (not (eqb n 0))).0 t in
-      let z = eqb-true k 0 p.0 in
-      (sym z ∙ ek, rw (code_done o k ek z, not-true (eqb n 0) p.1))
-
-  pub end_kept : (eqb k 0 && not (eqb n 0)) ≡ false → Ended o n left state state
-  unfolding answered state_left
-  end_kept t = go (eqb n 0) refl (accepted (outcome_answer o)) refl
-    where
-      go : (x : Bool) → eqb n 0 ≡ x → (b : Bool) → accepted (outcome_answer o) ≡ b → Ended o n left state state
-      go x e false f = rw f
-      go true e true f = rw (f, e)
-      go false e true f = absurd (true≢false (sym (ap (λ (m : ℕ). eqb m 0 && true) (ek ∙ coded-zero o f)) ∙ rw e at t))
-
--- a short `heard`
-module _ (o : Outcome) (k : ℕ) (ek : k ≡ coded (outcome_answer o)) where
-  pub unheard_done : k ≡ 0 → 17 ≡ coded (then_short true (outcome_answer o))
-  unfolding then_short first
-  unheard_done z = rw (code_done o k ek z)
-
-  pub unheard_refused : (k ≡ 0 → ⊥) → k ≡ coded (then_short true (outcome_answer o))
-  unfolding then_short
-  unheard_refused p = rw (code_refused o k ek p) ek
-
-  pub heard-put : k ≡ 0 → (x y : List ℕ) → x ≡ answered (outcome_answer o) x (λ n. y)
-  unfolding answered
-  heard-put z x y = rw (code_done o k ek z)
-
-  pub heard-kept : (k ≡ 0 → ⊥) → (x y : List ℕ) → y ≡ answered (outcome_answer o) x (λ n. y)
-  unfolding answered
-  heard-kept p x y = rw (code_refused o k ek p)
+  pub then_own : {y : X} → o ≡ Ok y → then17 ≡ first (test 17 short ∷ [])
+  then_own p = first-append ts _ (done_none o ts t p eo)
 
 -- the answer with a short `heard` is no 0
-pub short-not : (o : Outcome) → accepted (then_short true (outcome_answer o)) ≡ false
+pub short-not : {X : Type 0} (o : Result X Refusal) → accepted (then_short true (outcome_answer o)) ≡ false
 unfolding then_short first
-short-not Done = refl
-short-not (Refused x) = let e = refused_not (Refused x) x _ refl refl in rw e e
+short-not (Ok y) = refl
+short-not {X} (Err x) = let e = refused_not {X = X} (Err x) x _ refl refl in rw e e
+
+-- a count that is below a bound
+pub count_below : {m n : ℕ} (o : Result ℕ Refusal) → IfOk o (λ k. k ≡ m) → m < n → IfOk o (λ k. k < n)
+count_below (Ok k) e h = rw e h
+count_below (Err x) e h = tt
 
 -- ---- a short record or line state, and neither
 

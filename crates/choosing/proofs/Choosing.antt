@@ -1,13 +1,12 @@
 -- Laws of the choice of points. Assumes nothing.
 use mathlib.Core.Path.{◌≡◌, refl, sym, ap, ap₂, ◌∙◌}
-use mathlib.Core.Logic.{◌⊎◌, inl, inr}
 use Prim.Native.Nat.{ℕ, zero, suc, ◌+◌, ◌*◌, ◌-◌, ◌/◌, ◌^◌, ◌≤◌, ◌<◌}
 use mathlib.Core.Bool.{Bool, true, false}
-use native.Mathlib.Nat.{add-zero, eq-or-lt_of_le, mul-le-mul, pow-suc, pow-zero, one-mul}
+use native.Mathlib.Nat.{add-zero, mul-le-mul, pow-suc, pow-zero, one-mul}
 use native.Mathlib.Omega.{arith}
 use borrow.Author.Tests.{le-leb, lt-leb}
 use lib.Dec.{leb}
-use lib.Pow.{pow-add, pow_mono}
+use lib.Pow.{pow-add}
 use Rattle.standard.specs.Lists.{lowest_from, list_where}
 use Rattle.standard.specs.Bits.{weight, field}
 use Rattle.standard.specs.Octets.{magnitude}
@@ -53,14 +52,6 @@ module _ (k : ℕ) where
 
   pub search_hit : (m : ℕ) → 2 ^ k ≤ m ^ 6 → search_from m ≡ m
   search_hit m s = lowest_hit (λ M. leb (2 ^ k) (M ^ 6)) m (128 - m) (le-leb (2 ^ k) (m ^ 6) s)
-
-  -- 128 is large enough
-  pub below_128 : (m : ℕ) → k ≤ 42 → m ≤ 128 → m ^ 6 < 2 ^ k → m < 128
-  below_128 m h l s = go (eq-or-lt_of_le l)
-    where
-      go : (m ≡ 128) ⊎ (m < 128) → m < 128
-      go (inl e) = let p : 128 ^ 6 < 2 ^ k = rw e at s in absurd (omega (arith, pow_mono {j = 42} h))
-      go (inr q) = q
 
 -- ---- a Ucode is looked at
 

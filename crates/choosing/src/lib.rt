@@ -24,11 +24,12 @@ pub fn points_for(k: u32) -> u32
     ensures { (result ≡ points_for k) × (result ≤ 128) }
 {
     let least = 1u64 << k;
-    let mut m = 0u64;
-    while sixth_power(m) < least {
-        m += 1;
+    for m in 0..128 {
+        if least <= sixth_power(m) {
+            return m as u32;
+        }
     }
-    m as u32
+    128
 }
 
 // A choice of points on its way up the Ucodes: the bits of those taken, the least value that can be taken, how many points are still
@@ -45,7 +46,7 @@ pub struct Chosen {
 fn takes(c: Chosen, value: u32) -> bool
     ensures { result ≡ Plan·takes (choice_of c) value }
 {
-    (c.wanted != 0) & (c.floor <= value)
+    c.wanted != 0 && c.floor <= value
 }
 
 // Looks at the Ucode of bit i, whose linear value is given.
@@ -73,16 +74,9 @@ pub fn choose_half(law: Law, spacing: u32, from: u32, c: Chosen) -> Chosen
     ensures { (M : ℕ) → Before law spacing M from c
         → Before law spacing M (from + 64) result × (result.bits ≡ field (lowest_mask law spacing M) from 64) }
 {
-    let mut p = Chosen {
-        bits: 0,
-        floor: c.floor,
-        wanted: c.wanted,
-        sum: c.sum,
-    };
-    let mut i = 0u32;
-    while i < 64 {
+    let mut p = Chosen { bits: 0, ..c };
+    for i in 0..64 {
         p = look_at(p, i, pcm::magnitude_of(law, (from + i) as u8), spacing);
-        i += 1;
     }
     p
 }

@@ -5,9 +5,10 @@ ghost use Rattle.std.specs.Prelude.{◌≡◌};
 ghost use Rattle.standard.specs.Refusals.{refusal_answer, outcome_answer};
 ghost use Rattle.codes.specs.Coded.{coded};
 
-use standard::{Outcome, Refusal};
+use standard::Refusal;
 
 // A refusal in one number.
+// The numbers are the C interface's. A `From` for u32 could stand in `standard` alone, whose readers need no numbers.
 fn code_of_refusal(x: Refusal) -> u32
     ensures { result ≡ coded (refusal_answer x) }
 {
@@ -41,12 +42,12 @@ fn code_of_refusal(x: Refusal) -> u32
     }
 }
 
-// An outcome in one number.
-pub fn code_of(o: Outcome) -> u32
+// An outcome in one number: 0 where nothing is refused.
+pub fn code_of<T: Drop>(o: Result<T, Refusal>) -> u32
     ensures { result ≡ coded (outcome_answer o) }
 {
     match o {
-        Outcome::Done => 0,
-        Outcome::Refused(x) => code_of_refusal(x),
+        Ok(_) => 0,
+        Err(x) => code_of_refusal(x),
     }
 }

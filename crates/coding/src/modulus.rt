@@ -20,10 +20,8 @@ pub fn reciprocals_of(sizes: [u64; 6]) -> [u64; 6]
     ensures { result ≡ list_from (reciprocal_of sizes) 0 6 }
 {
     let mut found = [0u64; 6];
-    let mut i = 0;
-    while i < 6 {
-        found[i] = reciprocal_of(sizes[i]);
-        i += 1;
+    for (i, inverse) in found.iter_mut().enumerate() {
+        *inverse = reciprocal_of(sizes[i]);
     }
     found
 }

@@ -19,15 +19,14 @@ pub fn turn(history: u32) -> u32
     ensures { result ≡ turned history }
 {
     let mut past: u32 = 0;
-    let mut k = 0;
-    while k < 23 {
+    for k in 0..23 {
         past = 2 * past + bit_of(history as u64, k) as u32;
-        k += 1;
     }
     past
 }
 
 // The past after a frame of the `count` lowest bits of `line`: nine bits of it at most are older than they are.
+// The bounds are clauses, here and below: a type of a past would stand around one number of `frame::Carried`, which `Bounded` bounds.
 pub fn past_after(past: u32, line: u64, count: usize) -> u32
     requires { (past < 2 ^ 23) × (14 ≤ count) × (count ≤ 48) }
     ensures { result ≡ turned (push_all (turned past) (bits_of count line)) }

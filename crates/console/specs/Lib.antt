@@ -1,1 +1,2 @@
+pub mod SystemErrors
 pub mod Trouble

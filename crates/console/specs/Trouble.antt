@@ -1,17 +1,10 @@
 -- What ended a stream before its input did. Assumes nothing.
-use Rattle.std.specs.Prelude.{Bool, true, false}
-use Rattle.console.specs.declared.Trouble.{Trouble}
-
--- nothing did
-unfoldable pub is_well : Trouble → Bool
-is_well Trouble.Nothing = true
-is_well (Trouble.Reading error) = false
-is_well (Trouble.Writing error) = false
-is_well (Trouble.Refused code) = false
+use Rattle.std.specs.Prelude.{Bool, true, false, Result, Ok, Err}
+use Rattle.console.specs.declared.trouble.Trouble.{Trouble}
 
 -- nothing more can be written to its output
-unfoldable pub is_over : Trouble → Bool
-is_over Trouble.Nothing = false
-is_over (Trouble.Reading error) = false
-is_over (Trouble.Writing error) = true
-is_over (Trouble.Refused code) = true
+abbrev pub is_over : Result (Unit {0}) Trouble → Bool
+is_over (Ok done) = false
+is_over (Err (Trouble.Reading error)) = false
+is_over (Err (Trouble.Writing error)) = true
+is_over (Err (Trouble.Refused refusal)) = true

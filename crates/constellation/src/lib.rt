@@ -1,7 +1,7 @@
 // K and D, and masks with their sizes, membership and labels.
 #![tactic(auto)]
 
-ghost use Rattle.std.specs.Prelude.{◌≡◌, ◌<◌, ◌≤◌, max};
+ghost use Rattle.std.specs.Prelude.{◌≡◌, ◌<◌, ◌≤◌};
 ghost use Rattle.standard.specs.Record.{index_of, top_index, K, D};
 ghost use Rattle.standard.specs.Constellation.{size_of, label_of, sizes};
 ghost use Rattle.constellation.specs.Mask.{has, mask_of, Indexed};
@@ -30,7 +30,7 @@ pub struct Mask {
     pub high: u64,
 }
 
-// The mask of interval i.
+// The mask of interval i. An index straight into the record costs a copy of it, and a call of one frame is a third slower.
 pub fn mask_of(r: Record, i: usize) -> Mask
     requires { (i < 6) × (index_of r i ≤ 5) }
     ensures { result ≡ mask_of r i }
@@ -48,7 +48,7 @@ pub fn mask_of(r: Record, i: usize) -> Mask
 pub fn size_of(m: Mask) -> u64
     ensures { result ≡ size_of (has m) 128 }
 {
-    (u64::count_ones(m.low) + u64::count_ones(m.high)) as u64
+    (m.low.count_ones() + m.high.count_ones()) as u64
 }
 
 // Whether a Ucode belongs to the mask.
@@ -68,9 +68,9 @@ pub fn label_of(m: Mask, ucode: u8) -> u64
     ensures { result ≡ label_of (has m) 128 ucode }
 {
     if ucode < 64 {
-        return (u64::count_ones(above(m.low, ucode)) + u64::count_ones(m.high)) as u64;
+        return (above(m.low, ucode).count_ones() + m.high.count_ones()) as u64;
     }
-    u64::count_ones(above(m.high, ucode - 64)) as u64
+    above(m.high, ucode - 64).count_ones() as u64
 }
 
 // M0 to M5.
@@ -79,31 +79,15 @@ pub fn sizes_of(r: Record) -> [u64; 6]
     ensures { result ≡ sizes r }
 {
     let mut found = [0u64; 6];
-    let mut i = 0;
-    while i < 6 {
-        found[i] = size_of(mask_of(r, i));
-        i += 1;
+    for (i, size) in found.iter_mut().enumerate() {
+        *size = size_of(mask_of(r, i));
     }
     found
-}
-
-// The larger of two indices.
-fn larger(a: u8, b: u8) -> u8
-    ensures { result ≡ max a b }
-{
-    if a < b { b } else { a }
 }
 
 // g: the largest of the six indices.
 pub fn largest_index(r: Record) -> u8
     ensures { result ≡ top_index r }
 {
-    let index = r.index;
-    let mut g: u8 = 0;
-    let mut i = 0;
-    while i < 6 {
-        g = larger(g, index[i]);
-        i += 1;
-    }
-    g
+    r.index.iter().copied().fold(0, u8::max)
 }

@@ -3,7 +3,7 @@
 // a time, and judged when all have come.
 #![tactic(auto)]
 
-ghost use Rattle.std.specs.Prelude.{◌≡◌, ◌++◌, ◌+◌, ◌*◌, ◌%◌, ◌^◌, ◌<◌, ◌≤◌, length};
+ghost use Rattle.std.specs.Prelude.{◌≡◌, ◌++◌, ◌+◌, ◌*◌, ◌%◌, ◌^◌, ◌<◌, ◌≤◌};
 ghost use Rattle.standard.specs.Bits.{bit_at, bits_in, bits_of, bytes_of, nth};
 ghost use Rattle.standard.specs.Control.{sequence_crc, sequence_bytes, judged};
 
@@ -13,15 +13,14 @@ use standard::Said;
 const SLIP_PATTERN: u64 = 0x5fee;
 
 // The CRC of bits 16 to 77.
-fn crc_in(sequence: &[u8]) -> u16
+fn crc_in(sequence: &[u8; 12]) -> u16
     ensures { result ≡ sequence_crc (bit_at sequence.now) }
 {
     crc::crc_from(0xffff, sequence, 16, 62)
 }
 
 // Writes a sequence: bits 0 and 1 of `word` are its bits 16 and 17, bits 2 to 55 its bits 24 to 77. Bits 18 to 23, 94 and 95 are zeros.
-pub fn write_sequence(word: u64, sequence: &mut [u8])
-    requires { length sequence.old ≡ 12 }
+pub fn write_sequence(word: u64, sequence: &mut [u8; 12])
     ensures { sequence.new ≡ sequence_bytes word }
 {
     bits::put_field(sequence, 0, 16, SLIP_PATTERN);
@@ -41,8 +40,8 @@ fn with_six(word: u64, n: usize, six: u64) -> u64
 
 // Puts the six bits of a control frame after those of the `done` frames before it; zeros follow them. The first word has bits 0 to 63, the
 // last one bits 32 to 95.
-pub fn keep_bits(sequence: &mut [u8], done: usize, six: u64)
-    requires { (length sequence.old ≡ 12) × (done < 16) × (six < 64) }
+pub fn keep_bits(sequence: &mut [u8; 12], done: usize, six: u64)
+    requires { (done < 16) × (six < 64) }
     ensures { sequence.new ≡ bytes_of 12 (nth (bits_in (6 * done) sequence.old ++ bits_of 6 six)) }
 {
     let at = 6 * done;
@@ -57,8 +56,7 @@ pub fn keep_bits(sequence: &mut [u8], done: usize, six: u64)
 }
 
 // What a receiver says of a sequence: the first that is so of frame lost, pattern wrong and CRC wrong, or the bits that a sender hands in.
-pub fn judge(lost: bool, sequence: &[u8]) -> Said
-    requires { length sequence.now ≡ 12 }
+pub fn judge(lost: bool, sequence: &[u8; 12]) -> Said
     ensures { result ≡ judged lost (bit_at sequence.now) }
 {
     let pattern = bits::field_at(sequence, 0, 16);

@@ -4,7 +4,7 @@
 ghost use Rattle.std.specs.Prelude.{◌≡◌};
 ghost use Rattle.cp_c.specs.Interface.{v91_read_cp, v91_write_cp, v91_send_cp, v91_find_state};
 
-use c_calls::{INPUT_TOO_SHORT, OUTPUT_TOO_SHORT, law_of, lent_short};
+use c_calls::{INPUT_TOO_SHORT, end_count, end_record, law_of, lent_short};
 use forms::RECORD_BYTES;
 use states::STATE_BYTES;
 
@@ -15,31 +15,14 @@ pub fn write_cp(rec: &[u8], cp: &mut [u8]) -> u32
     if rec.len() < RECORD_BYTES {
         return INPUT_TOO_SHORT;
     }
-    let done = cp::write_cp(forms::record_from(rec), cp);
-    let count = done.bit_count as u32;
-    let outcome = done.outcome;
-    let refusal = codes::code_of(outcome);
-    if refusal != 0 {
-        return refusal;
-    }
-    count
+    end_count(cp::write_cp(forms::record_from(rec), cp))
 }
 
 // Reads a CP of `bit_count` bits into a record.
 pub fn read_cp(cp: &[u8], bit_count: usize, rec: &mut [u8]) -> u32
     ensures { v91_read_cp cp.now bit_count rec.old ≡ record { answer = result; rec = rec.new } }
 {
-    let read = cp::read_cp(cp, bit_count);
-    let outcome = read.outcome;
-    let refusal = codes::code_of(outcome);
-    if refusal != 0 {
-        return refusal;
-    }
-    if rec.len() < RECORD_BYTES {
-        return OUTPUT_TOO_SHORT; // the record is a buffer to be written
-    }
-    forms::record_into(read.record, rec);
-    0
+    end_record(cp::read_cp(cp, bit_count), rec)
 }
 
 // Sends a record's CP and E_s as octets, from the line state and to the one left, and answers how many octets they have.
@@ -51,16 +34,12 @@ pub fn send_cp(rec: &[u8], a_law: bool, octets: &mut [u8], state: &mut [u8]) -> 
         return INPUT_TOO_SHORT;
     }
     let r = forms::record_from(rec);
-    let line = states::state_from(state);
-    let sent = start::send_cp(r, law_of(a_law), line, octets);
-    let total = sent.octet_count as u32;
-    let outcome = sent.outcome;
-    let refusal = codes::code_of(outcome);
-    if refusal != 0 {
-        return refusal;
+    let mut line = states::state_from(state);
+    let sent = start::send_cp(r, law_of(a_law), &mut line, octets);
+    if sent.is_ok() {
+        states::line_into(line, state);
     }
-    states::line_into(sent.state, state);
-    total
+    end_count(sent)
 }
 
 // Finds the line state that a CP and E_s left from the last 24 of their octets.
@@ -70,12 +49,10 @@ pub fn find_state(octets: &[u8], state: &mut [u8]) -> u32
     if state.len() < STATE_BYTES {
         return INPUT_TOO_SHORT;
     }
-    let found = start::find_state(octets, states::state_from(state));
-    let outcome = found.outcome;
-    let refusal = codes::code_of(outcome);
-    if refusal != 0 {
-        return refusal;
+    let mut line = states::state_from(state);
+    let found = start::find_state(octets, &mut line);
+    if found.is_ok() {
+        states::line_into(line, state);
     }
-    states::line_into(found.state, state);
-    0
+    codes::code_of(found)
 }

@@ -8,19 +8,19 @@ use native.Mathlib.Omega.{arith}
 use native.Mathlib.Decide.{ℕ_discrete}
 use borrow.Author.Tests.{eq-eqb, ne_eqb, not-false}
 use lib.Dec.{eqb, lit<}
+use Rattle.std.specs.Prelude.{Result, Ok}
+use Rattle.std.specs.Result.{IsErrAnd}
 use Rattle.standard.specs.Bits.{bit, bit_at, field}
 use Rattle.standard.specs.First.{Answer, bare, first}
 use Rattle.standard.specs.Lists.{any}
-use Rattle.standard.specs.Record.{no_record}
 use Rattle.standard.specs.Cp.{record_in}
-use Rattle.standard.specs.Refusals.{outcome_answer, read_tests}
+use Rattle.standard.specs.Refusals.{refusal_answer, outcome_answer, read_tests}
 use Rattle.standard.specs.Calls.{accepted, read_call, read_refusal, read_record}
-use Rattle.standard.specs.declared.Outcome.{Outcome}
-use Rattle.standard.specs.declared.Outcome.TheVariants.{Done, Refused}
 use Rattle.standard.specs.declared.Refusal.{Refusal}
 use Rattle.standard.proofs.Bits.{field-bit, field_is}
 use Rattle.standard.proofs.Lists.{any_none, none_any, every_at, T→true}
-use Rattle.standard.proofs.Stages.{refused_not, stage_hit, stage_past}
+use Rattle.standard.proofs.Stages.{stage_past}
+use Rattle.faults.proofs.Faults.{stage_hands_on}
 use Rattle.cp_faults.specs.Stages.{shape_tests, sequence_tests, content_tests}
 
 -- ---- tests
@@ -55,23 +55,19 @@ unfolding read_tests shape_tests content_tests sequence_tests
 read_stages s n = refl
 
 module _ (s : List ℕ) (n : ℕ) where
-  -- a refusal leaves no record
-  pub read_refused : (o : Outcome) (x : Refusal) → o ≡ Refused x → outcome_answer o ≡ read_refusal (read_call s n)
-      → read_record (read_call s n) ≡ no_record
-  unfolding read_record
-  read_refused o x q e = rw (refused_not o x (read_refusal (read_call s n)) q e)
-
   pub read-accepted : bare 0 ≡ read_refusal (read_call s n) → read_record (read_call s n) ≡ record_in (bit_at s)
   unfolding read_record
   read-accepted e = rw (sym (ap accepted e))
 
   -- the refusal, from either stage
-  pub refused_shape : (o : Outcome) (x : Refusal) → o ≡ Refused x → outcome_answer o ≡ first (shape_tests s n)
+  pub refused_shape : {X : Type 0} (o : Result X Refusal) (x : Refusal) → IsErrAnd o (λ y. y ≡ x) → refusal_answer x ≡ first (shape_tests s n)
       → outcome_answer o ≡ read_refusal (read_call s n)
   unfolding read_refusal
-  refused_shape o x q e = rw (read_stages s n) (stage_hit o x (shape_tests s n) (content_tests (bit_at s) n (record_in (bit_at s))) q e)
+  refused_shape o x h e = rw (read_stages s n) (stage_hands_on o x (shape_tests s n) (content_tests (bit_at s) n (record_in (bit_at s))) h e)
 
-  pub past_shape : (o : Outcome) → o ≡ Done → outcome_answer o ≡ first (shape_tests s n) → {a : Answer}
-      → a ≡ first (content_tests (bit_at s) n (record_in (bit_at s))) → a ≡ read_refusal (read_call s n)
+  pub past_shape : bare 0 ≡ first (shape_tests s n) → {a : Answer} → a ≡ first (content_tests (bit_at s) n (record_in (bit_at s)))
+      → a ≡ read_refusal (read_call s n)
   unfolding read_refusal shape_tests
-  past_shape o q e k = rw (read_stages s n) (stage_past o (shape_tests s n) (content_tests (bit_at s) n (record_in (bit_at s))) tt q e k)
+  past_shape e k =
+      let o : Result (Unit {0}) Refusal = Ok tt in
+      rw (read_stages s n) (stage_past o (shape_tests s n) (content_tests (bit_at s) n (record_in (bit_at s))) tt refl e k)

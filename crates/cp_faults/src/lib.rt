@@ -9,7 +9,7 @@ ghost use Rattle.standard.specs.Refusals.{outcome_answer, sync_broken, fixed_bit
 ghost use Rattle.cp_faults.specs.Stages.{shape_tests, sequence_tests, content_tests};
 
 use layout::cp_length;
-use standard::{Outcome, Record, Refusal};
+use standard::{Record, Refusal};
 
 // Refusal 3: one of bits 0 to 16 is 0.
 fn sync_broken(cp: &[u8]) -> bool
@@ -18,19 +18,14 @@ fn sync_broken(cp: &[u8]) -> bool
     bits::field_at(cp, 0, 17) != 0x1ffff
 }
 
+// `g ≤ 5` is a clause and no type, here and below: it is what `layout` and `crc`, whose functions are public, ask for.
+
 // Refusal 6: a start bit is 1. They are the multiples of 17 from 17 to 272 + γ.
 fn start_bit_set(cp: &[u8], g: usize) -> bool
     requires { g ≤ 5 }
     ensures { result ≡ start_bit_set (bit_at cp.now) g }
 {
-    let end = 17 + 8 * g;
-    let mut found = false;
-    let mut i = 1;
-    while i < end {
-        found = found | bits::bit_at(cp, 17 * i);
-        i += 1;
-    }
-    found
+    (1..17 + 8 * g).any(|i| bits::bit_at(cp, 17 * i))
 }
 
 // Whether the CRC that was sent is that of the bits before it. Refusal 7 is that it is not.
@@ -51,51 +46,48 @@ fn fixed_bit_wrong(cp: &[u8]) -> bool
 }
 
 // Refusals 1 to 3.
-pub fn shape_fault(cp: &[u8], bit_count: usize) -> Outcome
+pub fn shape_fault(cp: &[u8], bit_count: usize) -> Result<(), Refusal>
     ensures { outcome_answer result ≡ first (shape_tests cp.now bit_count) }
 {
-    if cp.len() < bit_count / 8 + (bit_count % 8 + 7) / 8 {
-        return Outcome::Refused(Refusal::CountExceedsBytes);
+    if cp.len() < bit_count.div_ceil(8) {
+        return Err(Refusal::CountExceedsBytes);
     }
     if bit_count < 294 {
-        return Outcome::Refused(Refusal::CountTooSmall);
+        return Err(Refusal::CountTooSmall);
     }
     if sync_broken(cp) {
-        return Outcome::Refused(Refusal::SyncBroken);
+        return Err(Refusal::SyncBroken);
     }
-    Outcome::Done
+    Ok(())
 }
 
 // Refusals 5 to 8.
-fn sequence_fault(cp: &[u8], bit_count: usize, g: usize) -> Outcome
+fn sequence_fault(cp: &[u8], bit_count: usize, g: usize) -> Result<(), Refusal>
     requires { g ≤ 5 }
     ensures { outcome_answer result ≡ first (sequence_tests (bit_at cp.now) bit_count g) }
 {
     if bit_count != cp_length(g) {
-        return Outcome::Refused(Refusal::LengthWrong);
+        return Err(Refusal::LengthWrong);
     }
     if start_bit_set(cp, g) {
-        return Outcome::Refused(Refusal::StartBitSet);
+        return Err(Refusal::StartBitSet);
     }
     if !crc_matches(cp, g) {
-        return Outcome::Refused(Refusal::CrcMismatch);
+        return Err(Refusal::CrcMismatch);
     }
     if fixed_bit_wrong(cp) {
-        return Outcome::Refused(Refusal::FixedBitWrong);
+        return Err(Refusal::FixedBitWrong);
     }
-    Outcome::Done
+    Ok(())
 }
 
 // Refusals 4 to 10, 25 and 11, of the record that was read.
-pub fn content_fault(cp: &[u8], bit_count: usize, r: Record) -> Outcome
+pub fn content_fault(cp: &[u8], bit_count: usize, r: Record) -> Result<(), Refusal>
     ensures { outcome_answer result ≡ first (content_tests (bit_at cp.now) bit_count r) }
 {
     if faults::index_too_large(r) {
-        return Outcome::Refused(Refusal::IndexTooLarge);
+        return Err(Refusal::IndexTooLarge);
     }
-    let sequence = sequence_fault(cp, bit_count, constellation::largest_index(r) as usize);
-    if let Outcome::Refused(_) = sequence {
-        return sequence;
-    }
+    sequence_fault(cp, bit_count, constellation::largest_index(r) as usize)?;
     faults::rate_fault(r)
 }

@@ -27,18 +27,7 @@ fn crc_some(register: u16, bits: u16, n: usize) -> u16
     crc_eight(crc_eight(mixed << (16 - n))) ^ ((mixed >> (n - 1)) >> 1)
 }
 
-// As many of `left` bits as one step takes.
-fn step_of(left: usize) -> usize
-    requires { 1 ≤ left }
-    ensures { (1 ≤ result) × (result ≤ 16) × (result ≤ left) }
-{
-    if left < 16 {
-        return left;
-    }
-    16
-}
-
-// The CRC register after the `count` bits from bit `at` on.
+// The CRC register after the `count` bits from bit `at` on. A step takes sixteen of them, and the last one what is left, so no range counts it.
 pub fn crc_from(register: u16, bytes: &[u8], at: usize, count: usize) -> u16
     requires { (at ≤ 2 ^ 20) × (count ≤ 2 ^ 20) }
     ensures { result ≡ after crc_step register (list_from (bit_at bytes.now) at count) }
@@ -46,7 +35,7 @@ pub fn crc_from(register: u16, bytes: &[u8], at: usize, count: usize) -> u16
     let mut crc = register;
     let mut done = 0;
     while done < count {
-        let n = step_of(count - done);
+        let n = (count - done).min(16);
         let some = bits::field_at(bytes, at + done, n) as u16;
         crc = crc_some(crc, some, n);
         done += n;
@@ -61,10 +50,8 @@ pub fn crc_of(cp: &[u8], g: usize) -> u16
 {
     let words = 15 + 8 * g;
     let mut register: u16 = 0xffff;
-    let mut i = 0;
-    while i < words {
+    for i in 0..words {
         register = crc_from(register, cp, 18 + 17 * i, 16);
-        i += 1;
     }
     register
 }

@@ -2,10 +2,12 @@
 use mathlib.Core.Path.{◌≡◌, refl, ap, ◌∙◌}
 use mathlib.Core.Bool.{true}
 use mathlib.Core.List.{List, ◌∷◌, ◌++◌}
-use Prim.Native.Nat.{ℕ, zero, suc, ◌+◌, ◌≤◌}
+use Prim.Native.Nat.{ℕ, zero, suc, ◌+◌, ◌*◌, ◌^◌, ◌<◌, ◌≤◌}
 use native.Mathlib.Nat.{zero-add, suc-add}
 use borrow.Author.Tests.{leb-true}
 use lib.Dec.{leb}
+use lib.Pow.{pow_mono}
+use native.Mathlib.Omega.{arith}
 use Rattle.standard.specs.Settings.{Entry, entry_at, next_at, entries_at}
 use Rattle.theorems_settings.proofs.Logic.{and_left, and_right}
 use Rattle.entries.specs.Entries.{inside, place_after}
@@ -30,3 +32,7 @@ pub place-next : (w : ℕ) (s : List ℕ) (at i : ℕ) → place_after w s (i + 
 unfolding place_after
 place-next w s at zero = refl
 place-next w s at (suc i) = rw (suc-add i 1) (place-next w s (next_at w s at) i)
+
+-- a number in two bytes at most
+pub two_bytes : (v k : ℕ) → k ≤ 2 → v < 2 ^ (8 * k) → v < 65536
+two_bytes v k h l = let m : 2 ^ (8 * k) ≤ 2 ^ 16 = pow_mono {j = 16} (omega arith) in omega arith

@@ -9,10 +9,12 @@ use native.Mathlib.Omega.{arith}
 use borrow.Author.Tests.{leb-true, le-leb}
 use lib.Dec.{eqb, ltb}
 use lib.ListN.{length, get_or, length-append}
+use Rattle.std.specs.Int.{from_bool}
 use Rattle.standard.specs.Settings.{Entry, entry_at, next_at, entries_at, entry_bytes, entries_bytes, entry_size, below, junctions}
 use Rattle.theorems_settings.proofs.Logic.{both}
 use Rattle.theorems_settings.proofs.Shown.{below-cons}
-use Rattle.entries.specs.Entries.{inside, place_after, sizes}
+use Rattle.entries.specs.Entries.{inside, place_after, sizes, LieInside, listed}
+use Rattle.entries.specs.declared.Entries.{Entries}
 use Rattle.entries.proofs.Inside.{inside-next, inside_more, entries-append}
 use Rattle.theorems_settings.proofs.Entries.{length-entry, entry_length}
 
@@ -25,26 +27,32 @@ entries-suc : (w : ℕ) (s : List ℕ) (at n : ℕ) → entries_at w s at (suc n
 unfolding entries_at
 entries-suc w s at n = refl
 
-module _ (w : ℕ) (s : List ℕ) (at₀ n : ℕ) (f : List Entry → ℕ) (g : Entry → ℕ) (most : ℕ) where
+-- after i of the entries the next one is there
+pub room : (r : Entries) (at i : ℕ) → inside r.start r.file.now (length r.file.now) (r.count - i) at ≡ true → i < r.count
+    → at + 4 + get_or r.file.now (at + 3) 0 + r.start ≤ length r.file.now
+unfolding next_at
+room r at i h l =
+    let e : r.count - i ≡ suc (r.count - (i + 1)) = omega arith in
+    inside-next r.start r.file.now (length r.file.now) (r.count - (i + 1)) at (rw e at h)
+
+module _ (r : Entries) (f : List Entry → ℕ) (g : Entry → ℕ) (most : ℕ) where
+  abbrev s : List ℕ
+  s = r.file.now
+
+  abbrev n : ℕ
+  n = r.count
+
   pub record Summing (at found i : ℕ) : Type 0 where
     pub done : i ≤ n
     pub few : found ≤ most * i
-    pub here : inside w s (length s) (n - i) at ≡ true
-    pub total : f (entries_at w s at₀ n) ≡ found + f (entries_at w s at (n - i))
-
-  pub sum-start : inside w s (length s) n at₀ ≡ true → Summing at₀ 0 0
-  sum-start h =
-      let e : n - 0 ≡ n = omega arith in record { done = omega arith; few = omega arith; here = rw e h; total = rw e (omega arith) }
+    pub here : inside r.start s (length s) (n - i) at ≡ true
+    pub total : f (listed r) ≡ found + f (entries_at r.start s at (n - i))
 
   module _ (at found i : ℕ) (go : Summing at found i) where
     left : i < n → n - i ≡ suc (n - (i + 1))
     left l = omega arith
 
-    pub sum_room : i < n → at + 4 + get_or s (at + 3) 0 + w ≤ length s
-    unfolding next_at
-    sum_room l = inside-next w s (length s) (n - (i + 1)) at (rw (left l) at go.here)
-
-    pub sum_more : Adds f g → i < n → (one next : ℕ) → one ≡ g (entry_at s at) → one ≤ most → next ≡ at + 4 + get_or s (at + 3) 0 + w
+    pub sum_more : Adds f g → i < n → (one next : ℕ) → one ≡ g (entry_at s at) → one ≤ most → next ≡ at + 4 + get_or s (at + 3) 0 + r.start
         → Summing next (found + one) (i + 1)
     unfolding next_at
     sum_more a l one next e h en =
@@ -52,18 +60,23 @@ module _ (w : ℕ) (s : List ℕ) (at₀ n : ℕ) (f : List Entry → ℕ) (g : 
         rw en record {
           done = omega arith;
           few = omega (arith, go.few);
-          here = inside_more w s (length s) (n - (i + 1)) at (rw (left l) at go.here);
+          here = inside_more r.start s (length s) (n - (i + 1)) at (rw (left l) at go.here);
           total =
-              go.total ∙ ap (λ (m : ℕ). found + f (entries_at w s at m)) (left l)
-              ∙ ap (λ (es : List Entry). found + f es) (entries-suc w s at (n - (i + 1)))
-              ∙ ap (λ (m : ℕ). found + m) (a.cons (entry_at s at) (entries_at w s (next_at w s at) (n - (i + 1)))) ∙ omega arith;
+              go.total ∙ ap (λ (m : ℕ). found + f (entries_at r.start s at m)) (left l)
+              ∙ ap (λ (es : List Entry). found + f es) (entries-suc r.start s at (n - (i + 1)))
+              ∙ ap (λ (m : ℕ). found + m) (a.cons (entry_at s at) (entries_at r.start s (next_at r.start s at) (n - (i + 1)))) ∙ omega arith;
         }
 
-    pub sum-all : Adds f g → n ≤ i → found ≡ f (entries_at w s at₀ n)
+    pub sum-all : Adds f g → n ≤ i → found ≡ f (listed r)
     unfolding entries_at
     sum-all a l = let z : n - i ≡ 0 = omega arith in sym (go.total ∙ rw z (ap (λ (m : ℕ). found + m) a.nil ∙ add-zero found))
 
 -- ---- the three counts
+
+-- one where a test holds, and else none
+pub bit : (b : Bool) (n : ℕ) → n ≡ from_bool b → (n ≡ cond b 1 0) × (n ≤ 1)
+bit true n e = (e, omega arith)
+bit false n e = (e, omega arith)
 
 abbrev pub below_one : ℕ → Entry → ℕ
 below_one j e = cond (ltb e.junction j) 1 0
@@ -119,6 +132,23 @@ inside_split w s end (suc a) b at h =
     let r = inside_split w s end a b (next_at w s at) (inside_more w s end (a + b) at h') in
     (both _ _ (le-leb (next_at w s at) end (inside-next w s end (a + b) at h')) r.0, r.1)
 
+-- the first k of entries that lie inside, and those behind them
+pub front_inside : (r : Entries) (k : ℕ) → LieInside r → k ≤ r.count → inside r.start r.file.now (length r.file.now) k r.from ≡ true
+front_inside r k h l =
+    let e : k + (r.count - k) ≡ r.count = omega arith in
+    (inside_split r.start r.file.now (length r.file.now) k (r.count - k) r.from
+    (ap (λ (m : ℕ). inside r.start r.file.now (length r.file.now) m r.from) e ∙ h)).0
+
+pub rest_inside : (r : Entries) (k : ℕ) → LieInside r → k ≤ r.count
+    → inside r.start r.file.now (length r.file.now) (r.count - k) (place_after r.start r.file.now k r.from) ≡ true
+rest_inside r k h l =
+    let e : k + (r.count - k) ≡ r.count = omega arith in
+    (inside_split r.start r.file.now (length r.file.now) k (r.count - k) r.from
+    (ap (λ (m : ℕ). inside r.start r.file.now (length r.file.now) m r.from) e ∙ h)).1
+
+pub place_low : (r : Entries) (k : ℕ) → LieInside r → k ≤ r.count → place_after r.start r.file.now k r.from ≤ length r.file.now
+place_low r k h l = inside_low r.start r.file.now (length r.file.now) (r.count - k) (place_after r.start r.file.now k r.from) (rest_inside r k h l)
+
 size-next : (w : ℕ) (s : List ℕ) (at : ℕ) → next_at w s at ≤ length s → (k : ℕ) → next_at w s at + k ≡ at + (entry_size w (entry_at s at) + k)
 unfolding next_at
 size-next w s at l k = let e : length (entry_at s at).cp ≡ get_or s (at + 3) 0 = entry_length s at (omega arith) in omega arith
@@ -138,3 +168,9 @@ pub sizes_split : (w v : ℕ) (s : List ℕ) (at n a b : ℕ) → n ≡ a + b
 sizes_split w v s at n a b e =
     ap (λ (k : ℕ). sizes w (entries_at v s at k)) e ∙ ap (sizes w) (entries-append v s at a b)
     ∙ sizes-append w (entries_at v s at a) (entries_at v s (place_after v s a at) b)
+
+-- so the place after the first k entries is theirs
+pub place_by_size : (r : Entries) (k n : ℕ) → LieInside r → k ≤ r.count → n ≡ sizes r.start (entries_at r.start r.file.now r.from k)
+    → r.from + n ≡ place_after r.start r.file.now k r.from
+place_by_size r k n h l e =
+    ap (λ (m : ℕ). r.from + m) e ∙ sym (place-size r.start r.file.now k r.from (front_inside r k h l))

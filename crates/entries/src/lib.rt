@@ -1,18 +1,14 @@
 // The entries of a settings file in its bytes: numbers read, entries counted, their bytes added up.
 #![tactic(auto)]
 
-ghost use Rattle.std.specs.Prelude.{◌≡◌, true, cond, ◌+◌, ◌*◌, ◌<◌, ◌≤◌, ◌^◌, length, get_or};
-ghost use Rattle.standard.specs.Settings.{little_at, entries_at, below, junctions};
-ghost use Rattle.entries.specs.Entries.{inside, sizes};
+ghost use Rattle.std.specs.Prelude.{◌≡◌, ◌+◌, ◌*◌, ◌<◌, ◌≤◌, ◌^◌, length, get_or};
+ghost use Rattle.standard.specs.Settings.{little_at, below, junctions, trailer};
+ghost use Rattle.entries.specs.Entries.{LieInside, Few, entries_of, listed, place_after, sizes};
 
-pub fn wide(x: u8) -> usize
-    ensures value { result ≡ x }
-    ensures upper_bound { result < 256 }
-{
-    x as usize
-}
+use standard::Version;
 
 // The number in the w bytes from `at` on.
+// `from_le_bytes` takes eight bytes, and here w is any number up to 4.
 pub fn number_at(s: &[u8], at: usize, w: usize) -> usize
     requires w_in_bounds { at + w ≤ length s.now }
     requires w_bound { w ≤ 4 }
@@ -20,19 +16,10 @@ pub fn number_at(s: &[u8], at: usize, w: usize) -> usize
     ensures upper_bound { result < 2 ^ (8 * w) }
 {
     let mut value: usize = 0;
-    let mut left = w;
-    while 0 < left {
-        left -= 1;
-        value = value * 256 + wide(s[at + left]);
+    for i in (0..w).rev() {
+        value = value * 256 + usize::from(s[at + i]);
     }
     value
-}
-
-pub fn one_if(b: bool) -> usize
-    ensures value { result ≡ cond b 1 0 }
-    ensures upper_bound { result ≤ 1 }
-{
-    if b { 1 } else { 0 }
 }
 
 // The place after the entry at `at`, whose start has w bytes.
@@ -40,60 +27,101 @@ pub fn next_at(s: &[u8], at: usize, w: usize) -> usize
     requires { at + 4 + get_or s.now (at + 3) 0 + w ≤ length s.now }
     ensures { (result ≡ at + 4 + get_or s.now (at + 3) 0 + w) × (result ≤ at + 259 + w) }
 {
-    at + 4 + wide(s[at + 3]) + w
+    at + 4 + usize::from(s[at + 3]) + w
 }
 
-// How many entries have a junction below j.
-pub fn count_below(s: &[u8], w: usize, n: usize, j: usize) -> usize
-    requires n_value { inside w s.now (length s.now) n 0 ≡ true }
-    requires n_bound { (n < 65536) × (w ≤ 4) }
-    ensures value { result ≡ length (below j (entries_at w s.now 0 n)) }
-    ensures upper_bound { result ≤ n }
-{
-    let mut at: usize = 0;
-    let mut found: usize = 0;
-    let mut i: usize = 0;
-    while i < n {
-        found += one_if(number_at(s, at, 2) < j);
-        at = next_at(s, at, w);
-        i += 1;
-    }
-    found
+// Entries that lie end to end in a file: from which place on, how many, and how many bytes the start in each has.
+// That they lie inside it stays a `requires`: docs/TRACE.md names `count_below` and README.md this crate, so no type may ask it of callers.
+#[derive(Clone, Copy)]
+pub struct Entries<'a> {
+    pub file: &'a [u8],
+    pub start: usize,
+    pub from: usize,
+    pub count: usize,
 }
 
-// How many of n entries are current ones: the junctions.
-pub fn junctions_in(s: &[u8], w: usize, n: usize) -> usize
-    requires n_value { inside w s.now (length s.now) n 0 ≡ true }
-    requires n_bound { (n < 65536) × (w ≤ 4) }
-    ensures value { result ≡ junctions (entries_at w s.now 0 n) }
-    ensures upper_bound { result ≤ n }
+// The entries of a file of this version: as many as its trailer says, from place 0.
+#[tactic(auto, using(crate::proofs::Inside::two_bytes))]
+pub fn entries_in(file: &[u8], version: Version) -> Entries<'_>
+    requires trailer { trailer version ≤ length file.now }
+    requires count_bound { version.count ≤ 2 }
+    ensures value { result ≡ entries_of version file.entry }
+    ensures few { result.count < 65536 }
 {
-    let mut at: usize = 0;
-    let mut found: usize = 0;
-    let mut i: usize = 0;
-    while i < n {
-        found += one_if(s[at + 2] == 0);
-        at = next_at(s, at, w);
-        i += 1;
+    let tail = version.count + version.start + 1;
+    Entries {
+        file,
+        start: version.start,
+        from: 0,
+        count: number_at(file, file.len() - tail, version.count),
     }
-    found
 }
 
-// The bytes that n entries of a file with starts of v bytes, from `from` on, have with starts of w bytes.
-pub fn size_of(s: &[u8], v: usize, from: usize, n: usize, w: usize) -> usize
-    requires from_value { inside v s.now (length s.now) n from ≡ true }
-    requires n_bound { (n < 65536) × (v ≤ 4) × (w ≤ 4) }
-    ensures value { result ≡ sizes w (entries_at v s.now from n) }
-    ensures upper_bound { result ≤ 263 * n }
-{
-    let mut at = from;
-    let mut found: usize = 0;
-    let mut i: usize = 0;
-    while i < n {
-        let next = next_at(s, at, v);
-        found = found + (next - at - v + w);
-        at = next;
-        i += 1;
+// Each walk is a loop of its own: handed to one walk as a closure, what it adds would need a contract longer than the loop.
+impl Entries<'_> {
+    // How many have a junction below j.
+    #[tactic(auto, using(crate::proofs::Sums::room))]
+    pub fn count_below(&self, j: usize) -> usize
+        requires inside { LieInside self.now }
+        requires few { Few self.now }
+        ensures value { result ≡ length (below j (listed self.now)) }
+        ensures upper_bound { result ≤ self.now.count }
+    {
+        let mut at = self.from;
+        let mut found = 0;
+        for _ in 0..self.count {
+            found += usize::from(number_at(self.file, at, 2) < j);
+            at = next_at(self.file, at, self.start);
+        }
+        found
     }
-    found
+
+    // How many are current ones: the junctions.
+    #[tactic(auto, using(crate::proofs::Sums::room))]
+    pub fn junctions(&self) -> usize
+        requires inside { LieInside self.now }
+        requires few { Few self.now }
+        ensures value { result ≡ junctions (listed self.now) }
+        ensures upper_bound { result ≤ self.now.count }
+    {
+        let mut at = self.from;
+        let mut found = 0;
+        for _ in 0..self.count {
+            found += usize::from(self.file[at + 2] == 0);
+            at = next_at(self.file, at, self.start);
+        }
+        found
+    }
+
+    // The bytes that they have with starts of w bytes.
+    #[tactic(auto, using(crate::proofs::Sums::room))]
+    pub fn size_of(&self, w: usize) -> usize
+        requires inside { LieInside self.now }
+        requires few { Few self.now }
+        requires w_bound { w ≤ 4 }
+        ensures value { result ≡ sizes w (listed self.now) }
+        ensures upper_bound { result ≤ 263 * self.now.count }
+    {
+        let mut at = self.from;
+        let mut found = 0;
+        for _ in 0..self.count {
+            let next = next_at(self.file, at, self.start);
+            found += next - at - self.start + w;
+            at = next;
+        }
+        found
+    }
+
+    // The place after the first k of them.
+    #[tactic(auto, using(crate::proofs::Sums::front_inside))]
+    pub fn place_after(&self, k: usize) -> usize
+        requires inside { LieInside self.now }
+        requires start_bound { self.now.start ≤ 4 }
+        requires k_bound { (k ≤ self.now.count) × (k < 65536) }
+        ensures value { result ≡ place_after self.now.start self.now.file.now k self.now.from }
+        ensures upper_bound { result ≤ length self.now.file.now }
+    {
+        let front = Entries { count: k, ..*self };
+        self.from + front.size_of(self.start)
+    }
 }

@@ -12,7 +12,7 @@ ghost use Rattle.standard.specs.Refusals.{mask_above_indices, empty_tests, rate_
 ghost use Rattle.constellation.specs.Mask.{Indexed};
 
 use constellation::{k_of, largest_index, mask_of, size_of, sizes_of};
-use standard::{Outcome, Record, Refusal};
+use standard::{Record, Refusal};
 
 // Refusal 4: an interval index exceeds 5.
 pub fn index_too_large(r: Record) -> bool
@@ -25,23 +25,18 @@ pub fn index_too_large(r: Record) -> bool
 fn granted_below_full_rate(r: Record) -> bool
     ensures { result ≡ granted_below_full_rate r }
 {
-    if r.granted {
-        return r.drn != 28;
-    }
-    false
+    r.granted & (r.drn != 28)
 }
 
 // M0 × M1 × M2 × M3 × M4 × M5, at most 128 ^ 6.
+// `Indexed r` is a clause and no type: `rate_fault`, which is public, may ask its callers for no more than it.
 fn product_of(r: Record) -> u64
     requires { Indexed r }
     ensures { result ≡ product (sizes r) }
 {
-    let sizes = sizes_of(r);
-    let mut found: u64 = 1;
-    let mut i = 6;
-    while 0 < i {
-        i -= 1;
-        found = sizes[i] * found;
+    let mut found = 1;
+    for size in sizes_of(r) {
+        found *= size;
     }
     found
 }
@@ -77,65 +72,51 @@ fn mask_above_indices(r: Record) -> bool
     requires { top_index r ≤ 5 }
     ensures { result ≡ mask_above_indices r }
 {
-    let mask = r.mask;
-    let mut found = false;
-    let mut h = 2 * (largest_index(r) as usize + 1);
-    while h < 12 {
-        found = found | (mask[h] != 0);
-        h += 1;
-    }
-    found
+    let first = 2 * (largest_index(r) as usize + 1);
+    r.mask[first..].iter().any(|half| *half != 0)
 }
 
 // Refusal 25, with the lowest interval whose mask is empty.
-fn empty_fault(r: Record) -> Outcome
+fn empty_fault(r: Record) -> Result<(), Refusal>
     requires { Indexed r }
     ensures { outcome_answer result ≡ first (empty_tests r) }
 {
-    let mut i = 0;
-    while i < 6 {
+    for i in 0..6 {
         if interval_empty(r, i) {
-            return Outcome::Refused(Refusal::IntervalEmpty(i as u8));
+            return Err(Refusal::IntervalEmpty(i as u8));
         }
-        i += 1;
     }
-    Outcome::Done
+    Ok(())
 }
 
 // Refusals 9, 10, 25 and 11.
-pub fn rate_fault(r: Record) -> Outcome
+pub fn rate_fault(r: Record) -> Result<(), Refusal>
     requires { Indexed r }
     ensures { outcome_answer result ≡ first (rate_tests r) }
 {
     if 28 < r.drn {
-        return Outcome::Refused(Refusal::DrnTooLarge);
+        return Err(Refusal::DrnTooLarge);
     }
     if granted_below_full_rate(r) {
-        return Outcome::Refused(Refusal::GrantedBelowFullRate);
+        return Err(Refusal::GrantedBelowFullRate);
     }
-    let empty = empty_fault(r);
-    if let Outcome::Refused(_) = empty {
-        return empty;
-    }
+    empty_fault(r)?;
     if product_too_small(r) {
-        return Outcome::Refused(Refusal::ProductTooSmall);
+        return Err(Refusal::ProductTooSmall);
     }
-    Outcome::Done
+    Ok(())
 }
 
 // Refusals 4, 9, 10, 25, 11 and 12.
-pub fn record_fault(r: Record) -> Outcome
+pub fn record_fault(r: Record) -> Result<(), Refusal>
     ensures { outcome_answer result ≡ first (record_tests r) }
 {
     if index_too_large(r) {
-        return Outcome::Refused(Refusal::IndexTooLarge);
+        return Err(Refusal::IndexTooLarge);
     }
-    let rate = rate_fault(r);
-    if let Outcome::Refused(_) = rate {
-        return rate;
-    }
+    rate_fault(r)?;
     if mask_above_indices(r) {
-        return Outcome::Refused(Refusal::MaskAboveIndices);
+        return Err(Refusal::MaskAboveIndices);
     }
-    Outcome::Done
+    Ok(())
 }

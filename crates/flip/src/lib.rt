@@ -42,12 +42,9 @@ pub fn places_end(k: u32, i: u32) -> u64
 pub fn changed_count(k: u32, i: u32) -> u64
     ensures { result ≡ length (changed_places k i) }
 {
-    let end = places_end(k, i);
-    let mut count = 0u64;
-    let mut p = 0u64;
-    while p < end {
+    let mut count = 0;
+    for p in 0..places_end(k, i) {
         count += changes(k, i, p) as u64;
-        p += 1;
     }
     count
 }

@@ -6,10 +6,10 @@ use native.Mathlib.Omega.{arith}
 use native.Mathlib.Decide.{dec_lt}
 use native.Mathlib.Numerals.{add-one}
 use native.Mathlib.Nat.{add-zero, add-suc}
+use borrow.Rule.Slice.PartMut.{put_mid}
 use borrow.Author.Tests.{le-ltb}
 use lib.Dec.{lit<}
-use lib.ListN.{length, get_or, set, drop, length-set, get_or-eq_default}
-use lib.Seq.{drop_at, drop-drop}
+use lib.ListN.{length, get_or, set, take, drop, length-set, get_or-eq_default}
 use mir.Val.{bool_byte}
 use Rattle.standard.specs.Lists.{list_from}
 use Rattle.standard.specs.Bits.{bit_at, field, bytes_of}
@@ -17,9 +17,9 @@ use Rattle.standard.specs.Record.{index_of, half_of}
 use Rattle.standard.specs.Calls.{over}
 use Rattle.standard.specs.declared.Record.{Record}
 use Rattle.standard.specs.declared.Said.{Said}
-use Rattle.standard.proofs.Lists.{length-list_from, get_d_list}
+use Rattle.standard.proofs.Lists.{length-list_from, get_d_list, list_from_is}
 use Rattle.standard.proofs.Bits.{field_lt}
-use Rattle.standard.proofs.Filling.{listed_none, listed_more, listed_all}
+use Rattle.standard.proofs.Filling.{listed_none, listed_more, listed_all, front_more, part_long}
 use Rattle.standard.proofs.Words.{byte_weight}
 use Rattle.bits.specs.PutField.{bit_with, put_field}
 use Rattle.bits.proofs.PutField.{length-put_field, put_field-none, put_field_step, put_field_byte}
@@ -77,20 +77,22 @@ module _ (r : Record) where
       rw (le-ltb k 1 (omega arith), le-ltb k 2 (omega arith), le-ltb k 3 (omega arith), le-ltb k 9 (omega arith))
       (ap₂ (λ (x y : ℕ). get_or r.mask x 0 / 2 ^ (8 * y) % 256) d m)
 
-  -- the head in a buffer
-  pub head_put : (d : List ℕ) → 9 ≤ length d
-      → set (set
-      (set (set
-      (set (set (set (set (set d 0 (bool_byte r.granted)) 1 r.drn) 2 (bool_byte r.acknowledge)) 3 (index_of r 0)) 4 (index_of r 1))
-      5 (index_of r 2)) 6 (index_of r 3)) 7 (index_of r 4)) 8 (index_of r 5)
-      ≡ list_from (record_byte r) 0 9 ++ drop 9 d
-  unfolding record_byte
-  head_put d h =
+  -- the head in a buffer: the first three bytes, and behind them the indices
+  abbrev three : List ℕ → List ℕ
+  three d = set (set (set d 0 (bool_byte r.granted)) 1 r.drn) 2 (bool_byte r.acknowledge)
+
+  pub head_put : (d index : List ℕ) → 9 ≤ length d → index ≡ r.index → length index ≡ length (take 6 (drop 3 (three d)))
+      → put_mid 3 6 (three d) index ≡ list_from (record_byte r) 0 9 ++ drop 9 d
+  unfolding list_from record_byte
+  head_put d index h e l =
       let more = listed_more (record_byte r) d in
-      more _ 8 _
-      (more _ 7 _ (more _ 6 _ (more _ 5 _ (more _ 4 _ (more _ 3 _ (more _ 2 _ (more _ 1 _ (more d 0 _ (listed_none (record_byte r) d)
-      (omega arith) (byte_weight r.granted)) (omega arith) refl) (omega arith) (byte_weight r.acknowledge)) (omega arith) refl)
-      (omega arith) refl) (omega arith) refl) (omega arith) refl) (omega arith) refl) (omega arith) refl
+      let first = more _ 2 _ (more _ 1 _ (more d 0 _ (listed_none (record_byte r) d) (omega arith) (byte_weight r.granted)) (omega arith) refl)
+      (omega arith) (byte_weight r.acknowledge) in
+      let long : 9 ≤ length (three d) = simp length-set h in
+      let six : length r.index ≡ 6 = ap length (sym e) ∙ l ∙ part_long (three d) 3 6 long in
+      let listed : index ≡ list_from (λ i. index_of r i) 0 6 = e ∙ list_from_is (λ i. index_of r i) 0 6 r.index six (λ i h. refl) in
+      ap (λ (x : List ℕ). put_mid 3 6 x index) first ∙ front_more (list_from (record_byte r) 0 3) index d 3 6 refl
+      ∙ ap (λ (x : List ℕ). (list_from (record_byte r) 0 3 ++ x) ++ drop 9 d) listed
 
   -- a half more
   pub half_put : (d s : List ℕ) (h : ℕ) → h < 12 → 105 ≤ length s → length s ≡ length d → Bytes s
@@ -100,17 +102,6 @@ module _ (r : Record) where
       let k : 9 + 8 * h + 8 ≡ 9 + 8 * (h + 1) = omega arith in
       number_put (record_byte r) d (9 + 8 * h) (half_of r h) 8 s b (omega arith) m (λ q a. sym (half_byte_lem h q a)) e
       ∙ ap (λ (x : ℕ). list_from (record_byte r) 0 x ++ drop x d) k
-
--- what follows the first 9 bytes stays where they are put
-module _ (f : ℕ → ℕ) (d s : List ℕ) (e : s ≡ list_from f 0 9 ++ drop 9 d) where
-  rest : drop 9 s ≡ drop 9 d
-  rest = ap (drop 9) e ∙ drop_at (list_from f 0 9) (drop 9 d) 9 (length-list_from f 0 9)
-
-  pub own-rest : s ≡ list_from f 0 9 ++ drop 9 s
-  own-rest = e ∙ ap (λ (t : List ℕ). list_from f 0 9 ++ t) (sym rest)
-
-  pub rest-past : drop 105 s ≡ drop 105 d
-  rest-past = sym (drop-drop 96 9 s) ∙ ap (drop 96) rest ∙ drop-drop 96 9 d
 
 -- ---- words from the first byte on
 

@@ -1,7 +1,7 @@
 // What a call carries from one data frame to the next.
 #![tactic(auto)]
 
-ghost use Rattle.std.specs.Prelude.{◌≡◌, ◌<◌, ◌^◌, length};
+ghost use Rattle.std.specs.Prelude.{◌≡◌, ◌<◌, ◌^◌};
 ghost use Rattle.standard.specs.Frame.{doubtful_after};
 ghost use Rattle.frame.specs.Parts.{state_of, Bounded};
 
@@ -10,7 +10,7 @@ use standard::LineState;
 
 // A line state on its way through a call, but for the sequence's bits: the last sign, its history in the order of time, how many coming
 // data bits are doubtful, the frame place, whether a frame of the sequence was lost, and the sequence place. In this order the compiler
-// keeps them apart.
+// keeps them apart. The limits `Bounded` are no invariant of the type, since `carry` takes line states of any place.
 #[derive(Clone, Copy)]
 pub struct Carried {
     pub sign: bool,
@@ -36,13 +36,6 @@ pub fn carry(state: LineState) -> Carried
     }
 }
 
-// The sequence's bits of a line state, in an array of the call's own.
-pub fn own_bits(sequence: [u8; 12]) -> [u8; 12]
-    ensures { (result ≡ sequence) × (length result ≡ 12) }
-{
-    sequence
-}
-
 // The line state that is carried, with the sequence's bits.
 pub fn state_of(carried: Carried, sequence: [u8; 12]) -> LineState
     requires { Bounded carried }
@@ -54,7 +47,7 @@ pub fn state_of(carried: Carried, sequence: [u8; 12]) -> LineState
         doubtful: carried.doubtful,
         place: carried.place as u8,
         done: carried.done as u8,
-        sequence: sequence,
+        sequence,
         lost: carried.lost,
     }
 }

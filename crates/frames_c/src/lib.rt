@@ -27,19 +27,18 @@ pub fn send(
         return INPUT_TOO_SHORT;
     }
     let r = forms::record_from(rec);
-    let line = states::state_from(state);
-    let done = codec::send(
+    let mut line = states::state_from(state);
+    let sent = codec::send(
         r,
         law_of(a_law),
         frames,
         control,
         sequence,
-        line,
+        &mut line,
         bits,
         octets,
     );
-    let outcome = done.outcome;
-    end_call(outcome, done.state, frames, state)
+    end_call(sent, line, frames, state)
 }
 
 // Receives octets as data bits and a mark for each frame, from the line state and to the one left, and says what became of the control
@@ -69,7 +68,7 @@ pub fn receive(
         return INPUT_TOO_SHORT;
     }
     let r = forms::record_from(rec);
-    let line = states::state_from(state);
+    let mut line = states::state_from(state);
     if heard.len() < HEARD_BYTES {
         return unheard(codec::receive_fault(
             r,
@@ -81,9 +80,16 @@ pub fn receive(
             marks.len(),
         ));
     }
-    let done = codec::receive(r, law_of(a_law), frames, control, line, octets, bits, marks);
-    let outcome = done.outcome;
-    let said = done.said;
-    end_heard(outcome, said, heard);
-    end_call(outcome, done.state, frames, state)
+    let said = codec::receive(
+        r,
+        law_of(a_law),
+        frames,
+        control,
+        &mut line,
+        octets,
+        bits,
+        marks,
+    );
+    end_heard(said, heard);
+    end_call(said, line, frames, state)
 }

@@ -11,12 +11,13 @@ ghost use Rattle.standard.specs.declared.Said.TheVariants.{Nothing};
 ghost use Rattle.frame.specs.Allowed.{Allowed};
 
 use bits::Pouring;
+use hearing::Receiver;
 use receiving::receive_frame;
 use standard::{Law, LineState, Record, Said};
 
 // What is said of the control sequence that ends with a frame, and else what was said before.
-fn say(ends: bool, before: Said, lost: bool, sequence: &[u8]) -> Said
-    requires { length sequence.now ≡ 12 }
+// `ends` is a flag, by cases of which the loop's proof goes.
+fn say(ends: bool, before: Said, lost: bool, sequence: &[u8; 12]) -> Said
     ensures { result ≡ cond ends (judged lost (bit_at sequence.now)) before }
 {
     if ends {
@@ -57,8 +58,12 @@ pub fn receive_frames(
     let mut points = [[0u8; 128]; 6];
     let mut labels = [[0u8; 128]; 6];
     let mapping = mapping::draw_up(r, &mut points, &mut labels);
-    let given = state.sequence;
-    let mut sequence = frame::own_bits(given);
+    let receiver = Receiver {
+        law,
+        mapping,
+        labels: &labels,
+    };
+    let mut sequence = state.sequence;
     let mut line = frame::carry(state);
     let mut said = Said::Nothing;
     let mut pouring = Pouring {
@@ -66,14 +71,13 @@ pub fn receive_frames(
         count: 0,
         held: 0,
     };
-    let mut n = 0;
-    while n < frames {
+    for n in 0..frames {
         let at = 6 * n;
         let end = at + 6;
         let is_control = channel::is_control(control, line.place);
         let ends = is_control & (line.done == 15);
         let six = &octets[at..end];
-        let got = receive_frame(law, mapping, &labels, control, line, &mut sequence, six);
+        let got = receive_frame(&receiver, control, line, &mut sequence, six);
         pouring = bits::pour(
             bytes,
             pouring,
@@ -83,11 +87,10 @@ pub fn receive_frames(
         marks[n] = got.mark;
         line = got.line;
         said = say(ends, said, line.lost, &sequence);
-        n += 1;
     }
     bits::pour_out(bytes, pouring);
     FramesHeard {
         state: frame::state_of(line, sequence),
-        said: said,
+        said,
     }
 }

@@ -8,6 +8,7 @@ ghost use Rattle.standard.specs.Calls.{over};
 ghost use Rattle.frame.specs.Allowed.{Allowed};
 
 use coding::modulus::reciprocals_of;
+use sending::Sender;
 use standard::{Law, LineState, Record};
 
 // Sends so many frames: each takes the data bits that follow those of the frame before it, and frame n writes the six octets from place
@@ -30,23 +31,22 @@ pub fn send_frames(
     let mut points = [[0u8; 128]; 6];
     let mut labels = [[0u8; 128]; 6];
     let mapping = mapping::draw_up(r, &mut points, &mut labels);
-    let sizes = mapping.sizes;
-    let inverses = reciprocals_of(sizes);
-    let given = state.sequence;
-    let mut sequence = frame::own_bits(given);
+    let sender = Sender {
+        law,
+        mapping,
+        inverses: reciprocals_of(mapping.sizes),
+        points: &points,
+    };
+    let mut sequence = state.sequence;
     let mut line = frame::carry(state);
     let mut used = 0;
-    let mut n = 0;
-    while n < frames {
+    for n in 0..frames {
         let width = channel::width_of(mapping, channel::is_control(control, line.place));
         let bits = bits::field_at(bytes, used, width);
         let at = 6 * n;
         let end = at + 6;
         line = sending::send_frame(
-            law,
-            mapping,
-            inverses,
-            &points,
+            &sender,
             control,
             word,
             line,
@@ -55,7 +55,6 @@ pub fn send_frames(
             &mut octets[at..end],
         );
         used += width;
-        n += 1;
     }
     frame::state_of(line, sequence)
 }

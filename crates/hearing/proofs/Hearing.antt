@@ -1,7 +1,7 @@
 -- Six octets: their labels, their number, their mark and their bits on the line. Assumes nothing.
 use mathlib.Core.Path.{◌≡◌, refl, sym, ap, ap₂, ◌∙◌}
 use Prim.Native.Nat.{ℕ, suc, ◌+◌, ◌*◌, ◌-◌, ◌%◌, ◌^◌, ◌≤◌, ◌<◌}
-use mathlib.Core.Bool.{Bool}
+use mathlib.Core.Bool.{Bool, false}
 use mathlib.Core.List.{List, [], ◌∷◌, ◌++◌}
 use native.Mathlib.Nat.{add_comm, mul-le-mul, le_refl, lt_of_lt_of_le}
 use native.Mathlib.Omega.{arith}
@@ -21,8 +21,8 @@ use Rattle.standard.specs.Signs.{sign_bits}
 use Rattle.standard.specs.Frame.{outside_test, outside_tests, sign_at, ucode_at, received_number, mark_tests, mark, heard_bits}
 use Rattle.standard.specs.declared.Law.{Law}
 use Rattle.standard.specs.declared.Record.{Record}
-use Rattle.standard.proofs.Lists.{length-list_from, get_d_list, list_from_is, list_from_ext}
-use Rattle.standard.proofs.First.{same_number, first-left, none_first, none-at, first-append}
+use Rattle.standard.proofs.Lists.{length-list_from, get_d_list, list_from_is}
+use Rattle.standard.proofs.First.{same_number, first-left, none_first, none-at, first-append, first-lowest, first-none, none-list_from}
 use Rattle.standard.proofs.Bits.{number_of-lt}
 use Rattle.standard.proofs.Octets.{ucode-lt}
 use Rattle.standard.proofs.Signs.{length-sign_bits}
@@ -30,7 +30,7 @@ use Rattle.standard.proofs.Words.{one_shifted, above_six, number_append, bits-nu
 use Rattle.mapping.specs.declared.Mapping.{Mapping}
 use Rattle.mapping.specs.Tables.{mapping_of, label_or_none, label_tables}
 use Rattle.mapping.proofs.Tables.{number-le, label_in_lem, none-outside, label_inside}
-use Rattle.hearing.specs.Legible.{label_in, none_test}
+use Rattle.hearing.specs.Legible.{label_in}
 
 -- ---- the number of six labels, from label 5 down to label 0
 
@@ -80,15 +80,28 @@ module _ (r : Record) (l : Law) (os : List ℕ) where
         ap (λ (x : List ℕ). get_or x i 0) ef ∙ get_d_list (label_in l ls os) 0 6 i h
         ∙ label_in_lem r ls i h el (ucode_at l os i) (ucode-lt l (get_or os i 0))
 
-    tests_are : list_from (none_test found) 0 6 ≡ outside_tests r l os
-    unfolding none_test outside_tests outside_test
-    tests_are =
-        list_from_ext (none_test found) (outside_test r l os) 6
-        (λ i h. ap (test (i + 1))
-        (ap (λ (x : ℕ). eqb x 255) (found_at i h) ∙ none-outside (member r i) (ucode_at l os i) (ucode-lt l (get_or os i 0))))
+    applies_is : (i : ℕ) → i < 6 → eqb (get_or found i 0) 255 ≡ (outside_test r l os i).applies
+    unfolding outside_test
+    applies_is i h =
+        ap (λ (x : ℕ). eqb x 255) (found_at i h) ∙ none-outside (member r i) (ucode_at l os i) (ucode-lt l (get_or os i 0))
 
-    pub outside_is : (x : ℕ) → x ≡ (first (list_from (none_test found) 0 6)).number → x ≡ (first (outside_tests r l os)).number
-    outside_is x e = e ∙ ap (λ (ts : List Test). (first ts).number) tests_are
+    inside-at : (i : ℕ) → i < 6 → (get_or found i 0 ≡ 255 → ⊥) → (outside_test r l os i).applies ≡ false
+    inside-at i h ne = sym (applies_is i h) ∙ ne_eqb (get_or found i 0) 255 ne
+
+    -- interval i is the first that has no label
+    pub first_is : (i : ℕ) → i < 6 → get_or found i 0 ≡ 255 → ((k : ℕ) → k < i → get_or found k 0 ≡ 255 → ⊥)
+        → i + 1 ≡ (first (outside_tests r l os)).number
+    unfolding outside_tests outside_test
+    first_is i h e before =
+        sym (same_number (first-lowest (outside_test r l os) 6 i h (sym (applies_is i h) ∙ eq-eqb (get_or found i 0) 255 e)
+        (λ k b. inside-at k (omega arith) (before k b))))
+
+    -- each has one
+    pub none-is : ((k : ℕ) → k < 6 → get_or found k 0 ≡ 255 → ⊥) → (first (outside_tests r l os)).number ≡ 0
+    unfolding outside_tests
+    none-is all =
+        same_number (first-none (outside_tests r l os)
+        (none-list_from (outside_test r l os) 0 6 (λ k h. let z : 0 + k ≡ k = omega arith in rw z (inside-at k h (all k h)))))
 
     -- where none is outside its mask
     pub number_is : (first (outside_tests r l os)).number ≡ 0 → (m : Mapping) → m ≡ mapping_of r

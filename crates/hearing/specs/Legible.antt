@@ -1,6 +1,5 @@
 -- What reading six octets asks of the caller, and its parts as code has them. Assumes nothing.
-use Rattle.std.specs.Prelude.{◌≡◌, ℕ, ◌+◌, ◌≤◌, List, [], eqb, get_or}
-use Rattle.standard.specs.First.{Test, test}
+use Rattle.std.specs.Prelude.{◌≡◌, ℕ, ◌≤◌, List, [], get_or}
 use Rattle.standard.specs.Frame.{ucode_at}
 use Rattle.standard.specs.declared.Law.{Law}
 use Rattle.standard.specs.declared.Record.{Record}
@@ -16,7 +15,3 @@ pub record Legible (r : Record) (m : Mapping) (ls : List (List ℕ)) : Type 0 wh
 -- what the table by Ucode has for the octet in interval i
 unfoldable pub label_in : Law → List (List ℕ) → List ℕ → ℕ → ℕ
 label_in l ls os i = get_or (get_or ls i []) (ucode_at l os i) 0
-
--- interval i has no label
-unfoldable pub none_test : List ℕ → ℕ → Test
-none_test found i = test (i + 1) (eqb (get_or found i 0) 255)

@@ -1,20 +1,23 @@
 -- Entries laid one behind the other. Assumes nothing.
 use mathlib.Core.Path.{◌≡◌, refl, sym, ap, ap₂, subst, ◌∙◌}
-use mathlib.Core.Bool.{Bool, true, false}
+use mathlib.Core.Bool.{true}
 use mathlib.Core.List.{List, [], ◌∷◌, ◌++◌, append_assoc, append-nil}
 use mathlib.Core.Option.{some}
 use Prim.Native.Nat.{ℕ, suc, ◌+◌, ◌-◌, ◌/◌, ◌%◌, ◌<◌, ◌≤◌}
 use native.Mathlib.Nat.{add-zero, add_assoc}
 use native.Mathlib.Omega.{arith}
-use lib.ListN.{length, get_or, take, drop, length-append}
-use lib.Seq.{take_all}
+use denote.Ref.{Bor}
+use Rattle.std.specs.Prelude.{Option, Some, None}
+use lib.ListN.{length, get_or, length-append}
 use Rattle.standard.specs.Settings.{Entry, little, entry_at, next_at, entries_at, entry_bytes, entries_bytes, last_start, entry_size, entry}
 use Rattle.theorems_settings.proofs.Entries.{length-entry, entry_length}
-use Rattle.entries.specs.Entries.{inside, place_after, sizes}
+use Rattle.entries.specs.declared.Entries.{Entries}
+use Rattle.entries.specs.Entries.{inside, place_after, sizes, LieInside, listed}
 use Rattle.entries.proofs.Inside.{inside-next, inside_more, entries-append, place-next}
 use Rattle.entries.proofs.Sums.{length-bytes, sizes-append, sizes_split}
 use Rattle.laying.specs.declared.Spot.{Spot}
-use Rattle.laying.specs.Laying.{laid, Lays, given}
+use Rattle.laying.specs.declared.Writer.{Writer}
+use Rattle.laying.specs.Laying.{laid, Lays, Writes, Room, given}
 use Rattle.laying.proofs.Laying.{laid_nil, length-laid, laid-laid}
 
 -- two runs of entries
@@ -59,7 +62,7 @@ laid_next d out x y to at e p h = ap₂ (λ (o : List ℕ) (k : ℕ). laid o k y
 
 pub five : (d o1 o2 o3 o4 o5 cp : List ℕ) (to w before j k : ℕ) → to + (4 + length cp + w) ≤ length d → length cp < 256 → k < 256
     → o1 ≡ laid d to (little 2 j) → o2 ≡ laid o1 (to + 2) (little 1 k) → o3 ≡ laid o2 (to + 3) (little 1 (length cp))
-    → o4 ≡ laid o3 (to + 4) (take (length cp) (drop 0 cp))
+    → o4 ≡ laid o3 (to + 4) cp
     → o5 ≡ laid o4 (to + 4 + length cp) (little w before)
     → o5 ≡ laid d to (entry_bytes w before (record { junction = j; kind = k; cp = cp }))
 unfolding entry_bytes little
@@ -73,8 +76,7 @@ five d o1 o2 o3 o4 o5 cp to w before j k h hc hk q1 q2 q3 q4 q5 =
     ∙ laid_next d o2 _ (little 1 (length cp)) to (to + 3) p2 (omega arith) (omega arith)
     ∙ ap (λ (x : ℕ). laid d to (j % 256 ∷ j / 256 % 256 ∷ k ∷ x ∷ [])) mc in
     let p4 : o4 ≡ laid d to (j % 256 ∷ j / 256 % 256 ∷ k ∷ length cp ∷ cp) = q4
-    ∙ laid_next d o3 _ (take (length cp) (drop 0 cp)) to (to + 4) p3 (omega arith) (omega arith)
-    ∙ ap (λ (x : List ℕ). laid d to (j % 256 ∷ j / 256 % 256 ∷ k ∷ length cp ∷ x)) (take_all (length cp) cp (omega arith)) in
+    ∙ laid_next d o3 _ cp to (to + 4) p3 (omega arith) (omega arith) in
     q5 ∙ laid_next d o4 _ (little w before) to (to + 4 + length cp) p4 (omega arith) (omega arith)
 
 -- ---- entries laid from a spot on
@@ -126,50 +128,89 @@ module _ (w : ℕ) (d : List ℕ) (p : Spot) (xs : List Entry) (o : List ℕ) (q
               ∙ sym (last_append w p.before p.to xs ys ∙ ap₂ (λ (b k : ℕ). last_start w b k ys) (sym l.before) (sym l.to));
         }
 
--- an entry that is there where `has` says so
-module _ (w : ℕ) (d : List ℕ) (p : Spot) (j : ℕ) (cp : List ℕ) (has : Bool) where
-  pub given-size : has ≡ true → sizes w (entry 1 j (given has cp)) ≡ 4 + length cp + w
+-- entries written, and others behind them
+pub writes_append : (p : Writer) (xs : List Entry) (q : Writer) → Writes p xs q → Room p xs → (ys : List Entry) (r : Writer) → Writes q ys r
+    → Writes p (xs ++ ys) r
+writes_append p xs q l h ys r m =
+    record {
+      lays = lays_append p.start p.out.now p.spot xs q.out.now q.spot l.lays h ys r.out.now r.spot
+          (subst (λ (k : ℕ). Lays k q.out.now q.spot ys r.out.now r.spot) l.start m.lays);
+      start = m.start ∙ l.start;
+    }
+
+-- entries that have room have it one behind the other
+pub room_front : (p : Writer) (xs ys : List Entry) → Room p (xs ++ ys) → Room p xs
+room_front p xs ys h = omega (arith, sizes-append p.start xs ys)
+
+pub room_behind : (p : Writer) (xs ys : List Entry) (q : Writer) → Writes p xs q → Room p (xs ++ ys) → Room q ys
+room_behind p xs ys q l h =
+    omega (
+      arith,
+      sizes-append p.start xs ys,
+      lays_to p.start p.out.now p.spot xs q.out.now q.spot l.lays,
+      lays_long p.start p.out.now p.spot xs q.out.now q.spot l.lays (room_front p xs ys h),
+      ap (λ (k : ℕ). sizes k ys) l.start,
+    )
+
+-- nothing is written
+pub writes_none : (p : Writer) → Writes p [] p
+writes_none p = record { lays = lays_none p.start p.out.now p.spot; start = refl }
+
+-- the entry of a CP that may be there
+module _ (p : Writer) (j : ℕ) (o : Option (Bor (List ℕ))) where
+  pub given_size : (x : Bor (List ℕ)) → o ≡ Some x → sizes p.start (entry 1 j (given o)) ≡ 4 + length x.now + p.start
   unfolding entry given sizes
-  given-size e = rw e (omega arith)
+  given_size x e = rw e (omega arith)
 
-  pub given_yes : (out : List ℕ) (q : Spot) → has ≡ true → Lays w d p (entry 1 j (some cp)) out q
-      → Lays w d p (entry 1 j (given has cp)) out q
+  pub given_yes : (x : Bor (List ℕ)) (q : Writer) → o ≡ Some x → Writes p (entry 1 j (some x.now)) q → Writes p (entry 1 j (given o)) q
   unfolding given
-  given_yes out q e l = rw e l
+  given_yes x q e l = rw e l
 
-  pub given_no : has ≡ false → Lays w d p (entry 1 j (given has cp)) d p
+  pub given_no : o ≡ None → Writes p (entry 1 j (given o)) p
   unfolding entry given
-  given_no e = rw e (lays_none w d p)
+  given_no e = rw e (writes_none p)
 
 -- ---- n entries of a file, one a turn: after i of them
 
-module _ (w v : ℕ) (s : List ℕ) (d : List ℕ) (p : Spot) (at n : ℕ) where
-  pub record Copied (out : List ℕ) (q : Spot) (a i : ℕ) : Type 0 where
-    pub done : i ≤ n
-    lays : Lays w d p (entries_at v s at i) out q
-    pub here : inside v s (length s) (n - i) a ≡ true
-    pub place : a ≡ place_after v s i at
+module _ (p : Writer) (r : Entries) where
+  abbrev w : ℕ
+  w = p.start
 
-  pub copied_none : inside v s (length s) n at ≡ true → Copied d p at 0
+  abbrev v : ℕ
+  v = r.start
+
+  abbrev s : List ℕ
+  s = r.file.now
+
+  abbrev n : ℕ
+  n = r.count
+
+  pub record Copied (q : Writer) (a i : ℕ) : Type 0 where
+    pub done : i ≤ n
+    writes : Writes p (entries_at v s r.from i) q
+    pub here : inside v s (length s) (n - i) a ≡ true
+    pub place : a ≡ place_after v s i r.from
+
+  pub copied_none : LieInside r → Copied p r.from 0
   unfolding entries_at place_after
   copied_none h =
       let e : n - 0 ≡ n = omega arith in
-      record { done = omega arith; lays = lays_none w d p; here = rw e h; place = refl }
+      record { done = omega arith; writes = writes_none p; here = rw e h; place = refl }
 
-  module _ (room : p.to + sizes w (entries_at v s at n) ≤ length d) (out : List ℕ) (q : Spot) (a i : ℕ) (go : Copied out q a i) where
+  module _ (room : Room p (listed r)) (q : Writer) (a i : ℕ) (go : Copied q a i) where
     -- those that are copied have room
-    copied_room : p.to + sizes w (entries_at v s at i) ≤ length d
+    copied_room : Room p (entries_at v s r.from i)
     copied_room =
         let e : n ≡ i + (n - i) = omega (arith, go.done) in
-        omega (arith, sizes_split w v s at n i (n - i) e)
+        omega (arith, sizes_split w v s r.from n i (n - i) e)
 
-    pub copied_long : length out ≡ length d
-    copied_long = lays_long w d p (entries_at v s at i) out q go.lays copied_room
+    pub copied_long : length q.out.now ≡ length p.out.now
+    copied_long = lays_long w p.out.now p.spot (entries_at v s r.from i) q.out.now q.spot go.writes.lays copied_room
 
-    pub copied_all : n ≤ i → Lays w d p (entries_at v s at n) out q
+    pub copied_all : n ≤ i → Writes p (listed r) q
     copied_all l =
         let e : i ≡ n = omega (arith, go.done) in
-        subst (λ (k : ℕ). Lays w d p (entries_at v s at k) out q) e go.lays
+        subst (λ (k : ℕ). Writes p (entries_at v s r.from k) q) e go.writes
 
     module _ (l : i < n) where
       left : n - i ≡ suc (n - (i + 1))
@@ -182,33 +223,34 @@ module _ (w v : ℕ) (s : List ℕ) (d : List ℕ) (p : Spot) (at n : ℕ) where
       size : entry_size w (entry_at s a) ≡ 4 + get_or s (a + 3) 0 + w
       size = omega (arith, entry_length s a (omega (arith, entry-there)))
 
-      next : entries_at v s at (i + 1) ≡ entries_at v s at i ++ (entry_at s a ∷ [])
+      next : entries_at v s r.from (i + 1) ≡ entries_at v s r.from i ++ (entry_at s a ∷ [])
       unfolding entries_at
-      next = entries-append v s at i 1 ∙ ap (λ (k : ℕ). entries_at v s at i ++ (entry_at s k ∷ [])) (sym go.place)
+      next = entries-append v s r.from i 1 ∙ ap (λ (k : ℕ). entries_at v s r.from i ++ (entry_at s k ∷ [])) (sym go.place)
 
-      pub entry-room : q.to + (4 + get_or s (a + 3) 0) + w ≤ length out
+      pub entry-room : q.spot.to + (4 + get_or s (a + 3) 0) + q.start ≤ length q.out.now
       unfolding sizes
       entry-room =
           let e : n ≡ (i + 1) + (n - (i + 1)) = omega arith in
-          let one : sizes w (entries_at v s at (i + 1)) ≡ sizes w (entries_at v s at i) + (entry_size w (entry_at s a) + 0)
-          = ap (sizes w) next ∙ sizes-append w (entries_at v s at i) (entry_at s a ∷ []) in
+          let one : sizes w (entries_at v s r.from (i + 1)) ≡ sizes w (entries_at v s r.from i) + (entry_size w (entry_at s a) + 0)
+          = ap (sizes w) next ∙ sizes-append w (entries_at v s r.from i) (entry_at s a ∷ []) in
           omega (
             arith,
-            sizes_split w v s at n (i + 1) (n - (i + 1)) e,
+            sizes_split w v s r.from n (i + 1) (n - (i + 1)) e,
             one,
             size,
             copied_long,
-            lays_to w d p (entries_at v s at i) out q go.lays,
+            go.writes.start,
+            lays_to w p.out.now p.spot (entries_at v s r.from i) q.out.now q.spot go.writes.lays,
           )
 
-      pub copied_more : (t : List ℕ) (r : Spot) → Lays w out q (entry_at s a ∷ []) t r → (b : ℕ) → b ≡ a + 4 + get_or s (a + 3) 0 + v
-          → Copied t r b (i + 1)
+      pub copied_more : (t : Writer) → Writes q (entry_at s a ∷ []) t → (b : ℕ) → b ≡ a + 4 + get_or s (a + 3) 0 + v
+          → Copied t b (i + 1)
       unfolding next_at
-      copied_more t r m b eb =
+      copied_more t m b eb =
           rw eb record {
             done = omega arith;
-            lays = subst (λ (es : List Entry). Lays w d p es t r) (sym next)
-                (lays_append w d p (entries_at v s at i) out q go.lays copied_room (entry_at s a ∷ []) t r m);
+            writes = subst (λ (es : List Entry). Writes p es t) (sym next)
+                (writes_append p (entries_at v s r.from i) q go.writes copied_room (entry_at s a ∷ []) t m);
             here = inside_more v s (length s) (n - (i + 1)) a (rw left at go.here);
-            place = ap (next_at v s) go.place ∙ sym (place-next v s at i);
+            place = ap (next_at v s) go.place ∙ sym (place-next v s r.from i);
           }

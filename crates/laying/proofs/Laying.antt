@@ -5,6 +5,7 @@ use Prim.Native.Nat.{ℕ, suc, ◌+◌, ◌-◌, ◌/◌, ◌%◌, ◌<◌, ◌�
 use native.Mathlib.Nat.{add_assoc, add-zero}
 use native.Mathlib.Omega.{arith}
 use native.Mathlib.Numerals.{add-one}
+use borrow.Rule.Slice.PartMut.{put_mid}
 use lib.ListN.{length, get_or, take, drop, set, take-append-drop, length-drop, length-append}
 use lib.Seq.{drop-drop, drop_at, take_at, take_all, length-take-le, paste, paste-zero, paste-suc, length-paste, get_or-drop}
 use Rattle.standard.specs.Settings.{little, entry_at, entry_bytes}
@@ -44,7 +45,13 @@ laid-laid d x y at h =
     ∙ append_assoc (take at d) x (y ++ drop (at + length (x ++ y)) d)
     ∙ ap (λ (a : List ℕ). take at d ++ a) (sym (append_assoc x y (drop (at + length (x ++ y)) d)))
 
--- what the library's copying loop leaves
+-- what a copy into a part of the buffer leaves
+pub mid_laid : (d ys zs : List ℕ) (a k : ℕ) → ys ≡ zs → length zs ≡ k → put_mid a k d ys ≡ laid d a zs
+unfolding laid
+mid_laid d ys zs a k e l =
+    ap₂ (λ (y r : List ℕ). take a d ++ (y ++ r)) e (drop-drop k a d ∙ ap (λ (m : ℕ). drop (a + m) d) (sym l))
+
+-- what a loop over its places leaves
 paste_laid : (d x : List ℕ) (at n : ℕ) → length x ≡ n → paste d at x n ≡ laid d at x
 paste_laid d x at n e =
     ap₂ (λ (a : List ℕ) (k : ℕ). (take at d ++ a) ++ drop (at + k) d) (take_all n x (omega arith)) (sym e) ∙ sym (laid_is d x at)

@@ -1,43 +1,24 @@
 // Numbers and entries of a settings file laid into a buffer, one behind the other.
 #![tactic(auto)]
 
-ghost use Rattle.std.specs.Prelude.{◌≡◌, true, [], ◌∷◌, ◌+◌, ◌<◌, ◌≤◌, ◌%◌, length, get_or, take, drop};
+ghost use Rattle.std.specs.Prelude.{◌≡◌, [], ◌∷◌, ◌+◌, ◌<◌, ◌≤◌, length, get_or, IfSome};
 ghost use Rattle.std.proofs.Math.Option.{some};
-ghost use Rattle.standard.specs.Settings.{little, entry_at, entries_at, entry};
-ghost use Rattle.entries.specs.Entries.{inside, sizes};
-ghost use Rattle.laying.specs.Laying.{laid, Lays, given};
+ghost use Rattle.standard.specs.Settings.{little, entry_at, entry};
+ghost use Rattle.entries.specs.Entries.{LieInside, listed, sizes};
+ghost use Rattle.laying.specs.Laying.{laid, given, Room, Writes};
 
-use entries::{next_at, wide};
-
-// Copies n bytes.
-fn copy_bytes(out: &mut [u8], to: usize, s: &[u8], from: usize, n: usize)
-    requires { (to + n ≤ length out.old) × (from + n ≤ length s.now) }
-    ensures { out.new ≡ laid out.old to (take n (drop from s.now)) }
-{
-    let mut i: usize = 0;
-    while i < n {
-        out[to + i] = s[from + i];
-        i += 1;
-    }
-}
-
-fn low_byte(v: usize) -> u8
-    ensures { result ≡ v % 256 }
-{
-    (v % 256) as u8
-}
+use entries::{Entries, next_at};
 
 // Writes a number in w bytes.
+// `to_le_bytes` gives eight bytes, and here w is bounded by the buffer alone.
 pub fn put_number(out: &mut [u8], to: usize, v: usize, w: usize)
     requires { to + w ≤ length out.old }
     ensures { out.new ≡ laid out.old to (little w v) }
 {
     let mut rest = v;
-    let mut i: usize = 0;
-    while i < w {
-        out[to + i] = low_byte(rest);
-        rest = rest / 256;
-        i += 1;
+    for i in 0..w {
+        out[to + i] = (rest % 256) as u8;
+        rest /= 256;
     }
 }
 
@@ -48,77 +29,75 @@ pub struct Spot {
     pub before: usize,
 }
 
-// Writes an entry.
-pub fn put_entry(out: &mut [u8], w: usize, p: Spot, junction: usize, kind: usize, cp: &[u8]) -> Spot
-    requires { (p.to + (4 + length cp.now + w) ≤ length out.old) × (length cp.now < 256) × (kind < 256) }
-    ensures { Lays w out.old p (entry kind junction (some cp.now)) out.new result }
-{
-    let len = cp.len();
-    let to = p.to;
-    put_number(out, to, junction, 2);
-    put_number(out, to + 2, kind, 1);
-    put_number(out, to + 3, len, 1);
-    copy_bytes(out, to + 4, cp, 0, len);
-    put_number(out, to + 4 + len, p.before, w);
-    Spot {
-        to: to + 4 + len + w,
-        before: to,
-    }
+// Lays entries one behind the other into a buffer, each with a start of so many bytes.
+#[derive(Drop)]
+pub struct Writer<'a> {
+    pub out: &'a mut [u8],
+    pub start: usize,
+    pub spot: Spot,
 }
 
-// Writes the entry of a previous setting, where there is one.
-pub fn put_previous(
-    out: &mut [u8],
-    w: usize,
-    p: Spot,
-    junction: usize,
-    cp: &[u8],
-    has: bool,
-) -> Spot
-    requires { (p.to + sizes w (entry 1 junction (given has cp.now)) ≤ length out.old) × (length cp.now < 256) }
-    ensures { Lays w out.old p (entry 1 junction (given has cp.now)) out.new result }
-{
-    if has {
-        return put_entry(out, w, p, junction, 1, cp);
+impl Writer<'_> {
+    // Writes an entry. `kind` is the byte of the file, 0 or 1: an enum would be turned into it here and used nowhere else.
+    pub fn put_entry(&mut self, junction: usize, kind: u8, cp: &[u8])
+        requires room { self.old.spot.to + (4 + length cp.now + self.old.start) ≤ length self.old.out.now }
+        requires short { length cp.now < 256 }
+        ensures same_buffer { self.new.out.ghost_name ≡ self.old.out.ghost_name }
+        ensures lays { Writes self.old (entry kind junction (some cp.now)) self.new }
+    {
+        let len = cp.len();
+        let to = self.spot.to;
+        put_number(self.out, to, junction, 2);
+        put_number(self.out, to + 2, usize::from(kind), 1);
+        put_number(self.out, to + 3, len, 1);
+        self.out[to + 4..to + 4 + len].copy_from_slice(cp);
+        put_number(self.out, to + 4 + len, self.spot.before, self.start);
+        self.spot = Spot {
+            to: to + 4 + len + self.start,
+            before: to,
+        };
     }
-    p
-}
 
-// Copies the entry at `at` of a file, with a start of w bytes.
-fn copy_entry(out: &mut [u8], w: usize, p: Spot, s: &[u8], at: usize) -> Spot
-    requires { (at + 4 + get_or s.now (at + 3) 0 ≤ length s.now) × (p.to + (4 + get_or s.now (at + 3) 0) + w ≤ length out.old) }
-    ensures { Lays w out.old p (entry_at s.now at ∷ []) out.new result }
-{
-    let len = 4 + wide(s[at + 3]);
-    let to = p.to;
-    copy_bytes(out, to, s, at, len);
-    put_number(out, to + len, p.before, w);
-    Spot {
-        to: to + len + w,
-        before: to,
+    // Writes the entry of a previous setting, where there is one.
+    pub fn put_previous(&mut self, junction: usize, cp: Option<&[u8]>)
+        requires room { Room self.old (entry 1 junction (given cp)) }
+        requires short { IfSome cp (λ s. length s.now < 256) }
+        ensures same_buffer { self.new.out.ghost_name ≡ self.old.out.ghost_name }
+        ensures lays { Writes self.old (entry 1 junction (given cp.entry)) self.new }
+    {
+        if let Some(cp) = cp {
+            self.put_entry(junction, 1, cp);
+        }
     }
-}
 
-// Copies n entries of a file with starts of v bytes, from `at` on, with starts of w bytes.
-pub fn copy_entries(
-    out: &mut [u8],
-    w: usize,
-    p: Spot,
-    s: &[u8],
-    v: usize,
-    at: usize,
-    n: usize,
-) -> Spot
-    requires { (inside v s.now (length s.now) n at ≡ true) × (p.to + sizes w (entries_at v s.now at n) ≤ length out.old) }
-    ensures { Lays w out.old p (entries_at v s.now at n) out.new result }
-{
-    let mut q = p;
-    let mut a = at;
-    let mut i: usize = 0;
-    while i < n {
-        q = copy_entry(out, w, q, s, a);
-        a = next_at(s, a, v);
-        i += 1;
+    // Copies the entry at a place of a file.
+    fn copy_entry(&mut self, file: &[u8], at: usize)
+        requires there { at + 4 + get_or file.now (at + 3) 0 ≤ length file.now }
+        requires room { self.old.spot.to + (4 + get_or file.now (at + 3) 0) + self.old.start ≤ length self.old.out.now }
+        ensures same_buffer { self.new.out.ghost_name ≡ self.old.out.ghost_name }
+        ensures lays { Writes self.old (entry_at file.now at ∷ []) self.new }
+    {
+        let len = 4 + usize::from(file[at + 3]);
+        let to = self.spot.to;
+        self.out[to..to + len].copy_from_slice(&file[at..at + len]);
+        put_number(self.out, to + len, self.spot.before, self.start);
+        self.spot = Spot {
+            to: to + len + self.start,
+            before: to,
+        };
     }
-    q
+
+    // Copies entries of a file.
+    pub fn copy_entries(&mut self, entries: &Entries<'_>)
+        requires inside { LieInside entries.now }
+        requires room { Room self.old (listed entries.now) }
+        ensures same_buffer { self.new.out.ghost_name ≡ self.old.out.ghost_name }
+        ensures lays { Writes self.old (listed entries.now) self.new }
+    {
+        let mut at = entries.from;
+        for _ in 0..entries.count {
+            self.copy_entry(entries.file, at);
+            at = next_at(entries.file, at, entries.start);
+        }
+    }
 }

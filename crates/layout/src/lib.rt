@@ -13,6 +13,7 @@ ghost use Rattle.layout.specs.Writing.{put_fields, run_of};
 use standard::Record;
 
 // The bits of a CP whose largest index is g.
+// `g ≤ 5` is a clause and no type, here and below: what is public may ask its callers for no more than it.
 pub fn cp_length(g: usize) -> usize
     requires { g ≤ 5 }
     ensures { result ≡ cp_length g }
@@ -25,7 +26,7 @@ pub fn byte_count(g: usize) -> usize
     requires { g ≤ 5 }
     ensures { result ≡ cp_byte_count g }
 {
-    (cp_length(g) + 7) / 8
+    cp_length(g).div_ceil(8)
 }
 
 // The number in a field of up to eight bits.
@@ -78,10 +79,8 @@ fn masks_in(cp: &[u8], g: usize) -> [u64; 12]
     ensures { result ≡ list_from (half_in (bit_at cp.now) g) 0 12 }
 {
     let mut mask = [0u64; 12];
-    let mut h = 0;
-    while h < 12 {
+    for h in 0..12 {
         mask[h] = half_in(cp, g, h);
-        h += 1;
     }
     mask
 }
@@ -111,17 +110,6 @@ pub fn record_in(cp: &[u8]) -> Record
     r
 }
 
-// Zeroes all bytes.
-fn clear(cp: &mut [u8])
-    ensures { cp.new ≡ replicate (length cp.old) 0 }
-{
-    let mut at = 0;
-    while at < cp.len() {
-        cp[at] = 0;
-        at += 1;
-    }
-}
-
 // Puts run c of mask m: its Ucodes 16 c to 16 c + 15.
 fn put_run(cp: &mut [u8], mask: [u64; 12], m: usize, c: usize)
     requires { (m < 6) × (c < 8) × (run_place m c + 16 ≤ 8 * length cp.old) }
@@ -137,28 +125,9 @@ fn put_masks(cp: &mut [u8], r: Record)
     requires { (top_index r ≤ 5) × (272 + gamma (top_index r) ≤ 8 * length cp.old) }
     ensures { cp.new ≡ put_fields cp.old (mask_fields r) }
 {
-    let mask = r.mask;
-    let mut k = 8 * (constellation::largest_index(r) as usize + 1);
-    while 0 < k {
-        k -= 1;
-        put_run(cp, mask, k / 8, k % 8);
+    for k in (0..8 * (constellation::largest_index(r) as usize + 1)).rev() {
+        put_run(cp, r.mask, k / 8, k % 8);
     }
-}
-
-// Puts a field of up to eight bits.
-fn put_byte_field(cp: &mut [u8], at: usize, width: usize, value: u8)
-    requires { (at ≤ 2 ^ 32) × (width ≤ 8) × (at + width ≤ 8 * length cp.old) }
-    ensures { cp.new ≡ put_field cp.old at width value }
-{
-    bits::put_field(cp, at, width, value as u64);
-}
-
-// Puts one bit.
-fn put_flag(cp: &mut [u8], at: usize, b: bool)
-    requires { (at ≤ 2 ^ 32) × (at + 1 ≤ 8 * length cp.old) }
-    ensures { cp.new ≡ put_field cp.old at 1 (weight b) }
-{
-    bits::put_field(cp, at, 1, b as u64);
 }
 
 // Puts the indices, the last of them first.
@@ -166,13 +135,12 @@ fn put_indices(cp: &mut [u8], r: Record)
     requires { 128 ≤ 8 * length cp.old }
     ensures { cp.new ≡ put_fields cp.old (drop 5 (head_fields r)) }
 {
-    let index = r.index;
-    put_byte_field(cp, 124, 4, index[5]);
-    put_byte_field(cp, 120, 4, index[4]);
-    put_byte_field(cp, 115, 4, index[3]);
-    put_byte_field(cp, 111, 4, index[2]);
-    put_byte_field(cp, 107, 4, index[1]);
-    put_byte_field(cp, 103, 4, index[0]);
+    bits::put_field(cp, 124, 4, r.index[5] as u64);
+    bits::put_field(cp, 120, 4, r.index[4] as u64);
+    bits::put_field(cp, 115, 4, r.index[3] as u64);
+    bits::put_field(cp, 111, 4, r.index[2] as u64);
+    bits::put_field(cp, 107, 4, r.index[1] as u64);
+    bits::put_field(cp, 103, 4, r.index[0] as u64);
 }
 
 // Puts what stands before the masks, the last field first.
@@ -181,10 +149,10 @@ fn put_head(cp: &mut [u8], r: Record)
     ensures { cp.new ≡ put_fields cp.old (head_fields r) }
 {
     put_indices(cp, r);
-    put_flag(cp, 33, r.acknowledge);
-    put_byte_field(cp, 20, 5, r.drn);
-    put_flag(cp, 19, true);
-    put_flag(cp, 18, r.granted);
+    bits::put_field(cp, 33, 1, r.acknowledge as u64);
+    bits::put_field(cp, 20, 5, r.drn as u64);
+    bits::put_field(cp, 19, 1, 1);
+    bits::put_field(cp, 18, 1, r.granted as u64);
     bits::put_field(cp, 0, 17, 0x1ffff);
 }
 
@@ -194,7 +162,7 @@ pub fn put_cp(cp: &mut [u8], r: Record)
     ensures { cp.new ≡ cp_bytes r }
 {
     let g = constellation::largest_index(r) as usize;
-    clear(cp);
+    cp.fill(0);
     put_masks(cp, r);
     put_head(cp, r);
     let crc = crc::crc_of(cp, g) as u64;

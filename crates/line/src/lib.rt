@@ -4,13 +4,14 @@
 mod linear;
 mod receive;
 mod send;
+mod told;
 
-ghost use Rattle.std.specs.Prelude.{◌≡◌, ◌<◌, ◌≤◌, length};
+ghost use Rattle.std.specs.Prelude.{◌≡◌, ◌+◌, ◌<◌, ◌≤◌, length};
 
-use console::{Trouble, is_well};
+use console::Trouble;
 pub use linear::{Sampled, linear_stream};
 pub use receive::{Received, receive_stream};
-pub use send::{Channel, Sent, send_stream};
+pub use send::{Sent, send_stream};
 use standard::LineState;
 
 // The frame place of a line state; it is at most 63 in a state that a call left.
@@ -20,19 +21,15 @@ pub(crate) fn place_of(state: LineState) -> u8
     state.place % 64
 }
 
-// What ended a stream: what did before its last frames, or else what did with them.
-fn first_of(before: Trouble, last: Trouble) -> Trouble {
-    if is_well(before) {
-        return last;
-    }
-    before
-}
-
-// Moves the bytes from place `start` up to `end`, at most 8, to the front of the buffer.
-pub(crate) fn keep(bytes: &mut [u8], start: usize, end: usize)
-    requires { (start ≤ end) × (end ≤ 6144) × (length bytes.old ≡ 6144) }
+// Takes step after step: each reads, and answers whether the input goes on, or what ends the stream. A proved loop has to end: no run takes
+// so many steps.
+pub(crate) fn run<F: FnMut() -> Result<bool, Trouble>>(mut step: F) -> Result<(), Trouble>
+    requires { F.IsAlwaysCallable step }
 {
-    let mut rest = [0u8; 8];
-    unaligned::copy_bits(&bytes[0..end], 8 * start, &mut rest);
-    unaligned::copy_bits(&rest, 0, &mut bytes[0..8]);
+    for _ in 0..u64::MAX {
+        if !step()? {
+            break;
+        }
+    }
+    Ok(())
 }

@@ -1,5 +1,5 @@
 -- The entry at a place, step by step. Assumes nothing.
-use mathlib.Core.Path.{◌≡◌, refl, sym, ap, ap₂, subst, ◌∙◌}
+use mathlib.Core.Path.{◌≡◌, refl, sym, ap, ap₂, ◌∙◌}
 use Prim.Native.Nat.{ℕ, ◌+◌, ◌-◌, ◌<◌, ◌≤◌}
 use mathlib.Core.Bool.{Bool, true, false, not, cond}
 use mathlib.Core.List.{List}
@@ -10,12 +10,18 @@ use lib.Dec.{eqb, leb}
 use lib.ListN.{length, get_or, take, drop}
 use Rattle.standard.specs.Record.{no_record}
 use Rattle.standard.specs.Settings.{version_in, little_at, entry_at, next_at, trailer, bit_count_of}
-use Rattle.standard.specs.Calls.{read_call, read_record}
+use Rattle.standard.specs.Refusals.{outcome_answer}
+use Rattle.standard.specs.Bits.{bit_at}
+use Rattle.standard.specs.Cp.{record_in}
+use Rattle.standard.specs.declared.Refusal.{Refusal}
+use Rattle.standard.proofs.Stages.{refused_not}
+use Rattle.std.specs.Prelude.{Result, Ok, Err, IfOk}
+use Rattle.std.specs.Result.{result_unwrap_or}
+use Rattle.standard.specs.Calls.{ReadCall, read_call, read_refusal, read_record}
 use Rattle.standard.specs.declared.Record.{Record}
 use Rattle.standard.specs.declared.Version.{Version}
 use Rattle.theorems_settings.proofs.Entries.{entry_length}
-use Rattle.listing.specs.declared.EntryRead.{EntryRead}
-use Rattle.listing.specs.Reading.{entry_there, entry_record, Reads, Nothing, EntryIs}
+use Rattle.listing.specs.Reading.{entry_there, entry_record, Reads}
 
 leb_moved : (a b k n : ℕ) → b ≡ k + a → k ≤ n → leb a (n - k) ≡ leb b n
 leb_moved a b k n e h = go (dec_le a (n - k))
@@ -38,9 +44,9 @@ module _ (s : List ℕ) (at : ℕ) (v : Version) (e : v ≡ version_in s) where
       leb_moved (4 + get_or s (at + 3) 0 + v.start) (at + 4 + get_or s (at + 3) 0 + v.start) at (length s - trailer v) (omega arith) h
       ∙ there_by
 
-pub there-room : (s : List ℕ) (at : ℕ) → entry_there s at ≡ true → at + 4 + get_or s (at + 3) 0 + (version_in s).start ≤ length s
+pub there_room : (s : List ℕ) (at : ℕ) → entry_there s at ≡ true → at + 4 + get_or s (at + 3) 0 + (version_in s).start ≤ length s
 unfolding entry_there next_at
-there-room s at h = omega (arith, leb-true (at + 4 + get_or s (at + 3) 0 + (version_in s).start) (length s - trailer (version_in s)) h)
+there_room s at h = omega (arith, leb-true (at + 4 + get_or s (at + 3) 0 + (version_in s).start) (length s - trailer (version_in s)) h)
 
 -- ---- what is read
 
@@ -49,7 +55,6 @@ pub reads-entry : (s : List ℕ) (at : ℕ) (v : Version) (len j n : ℕ) (r : R
     → at + 4 + get_or s (at + 3) 0 + (version_in s).start ≤ length s → j ≡ little_at s at 2 → n ≡ bit_count_of (at + 4 + len - (at + 4))
     → r ≡ read_record (read_call (take (at + 4 + len - (at + 4)) (drop (at + 4) s)) n)
     → Reads s at (record {
-      found = true;
       junction = j;
       previous = not
           (eqb (get_or s (at + 2) 0) 0);
@@ -62,7 +67,6 @@ reads-entry s at v len j n r e el room ej en er =
     let d : at + 4 + len - (at + 4) ≡ get_or s (at + 3) 0 = omega arith in
     let l : length cp ≡ get_or s (at + 3) 0 = entry_length s at (omega arith) in
     record {
-      found = refl;
       junction = ej;
       previous = refl;
       cp =
@@ -71,13 +75,11 @@ reads-entry s at v len j n r e el room ej en er =
       next = ap₂ (λ (k : ℕ) (u : Version). at + 4 + k + u.start) el e;
     }
 
-pub entry_yes : (s : List ℕ) (at : ℕ) (x : EntryRead) → true ≡ entry_there s at → Reads s at x → EntryIs s at x
-entry_yes s at x e h = subst (λ (b : Bool). cond b (Reads s at x) (Nothing at x)) e h
-
-abbrev no_entry : ℕ → Record → EntryRead
-no_entry at r = record { found = false; junction = 0; previous = false; «record» = r; next = at }
-
-pub entry_no : (s : List ℕ) (at : ℕ) (r : Record) → false ≡ entry_there s at → r ≡ no_record → EntryIs s at (no_entry at r)
-entry_no s at r e er =
-    subst (λ (b : Bool). cond b (Reads s at (no_entry at r)) (Nothing at (no_entry at r))) e
-    (record { found = refl; junction = refl; previous = refl; cp = er; next = refl })
+-- the record that is read, or none where the reader refuses
+pub read_or : (c : ReadCall) (o : Result Record Refusal) → outcome_answer o ≡ read_refusal c → IfOk o (λ r. r ≡ read_record c)
+    → result_unwrap_or o no_record ≡ read_record c
+unfolding read_record
+read_or c (Ok r) e h = h
+read_or c (Err x) e h =
+    sym (ap (λ (b : Bool). cond b (record_in (bit_at c.bytes)) no_record)
+    (refused_not {X = Record} (Err x) x (read_refusal c) refl e))

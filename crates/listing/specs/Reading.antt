@@ -1,6 +1,5 @@
 -- The entry at a place of a file, for a list of them. Assumes nothing.
-use Rattle.std.specs.Prelude.{◌≡◌, ℕ, ◌-◌, Bool, true, false, not, cond, List, eqb, leb, length}
-use Rattle.standard.specs.Record.{no_record}
+use Rattle.std.specs.Prelude.{◌≡◌, ℕ, ◌-◌, Bool, not, List, eqb, leb, length}
 use Rattle.standard.specs.Settings.{version_in, entry_at, next_at, trailer, bit_count_of}
 use Rattle.standard.specs.Calls.{read_call, read_record}
 use Rattle.standard.specs.declared.Record.{Record}
@@ -16,19 +15,7 @@ entry_record s at = read_record (read_call (entry_at s at).cp (bit_count_of (len
 
 -- an entry that is there
 pub record Reads (s : List ℕ) (at : ℕ) (x : EntryRead) : Type 0 where
-  pub found : x.found ≡ true
   pub junction : x.junction ≡ (entry_at s at).junction
   pub previous : x.previous ≡ not (eqb (entry_at s at).kind 0)
   pub cp : x.record ≡ entry_record s at
   pub next : x.next ≡ next_at (version_in s).start s at
-
--- none
-pub record Nothing (at : ℕ) (x : EntryRead) : Type 0 where
-  pub found : x.found ≡ false
-  pub junction : x.junction ≡ 0
-  pub previous : x.previous ≡ false
-  pub cp : x.record ≡ no_record
-  pub next : x.next ≡ at
-
-abbrev pub EntryIs : List ℕ → ℕ → EntryRead → Type 0
-EntryIs s at x = cond (entry_there s at) (Reads s at x) (Nothing at x)

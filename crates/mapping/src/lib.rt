@@ -2,7 +2,7 @@
 // in label order and the label of each Ucode or none.
 #![tactic(auto)]
 
-ghost use Rattle.std.specs.Prelude.{◌≡◌, ℕ, ◌+◌, ◌≤◌, ◌<◌, Bool, length, set};
+ghost use Rattle.std.specs.Prelude.{◌≡◌, ℕ, ◌+◌, ◌≤◌, ◌<◌, Bool, set};
 ghost use Rattle.standard.specs.Record.{index_of};
 ghost use Rattle.standard.specs.Constellation.{label_of, member};
 ghost use Rattle.constellation.specs.Mask.{has, Indexed};
@@ -21,7 +21,8 @@ pub struct Mapping {
 }
 
 // Draws the Ucodes of half a mask into both tables, the smallest first: bit k stands for Ucode first + k, and the labels
-// go down from end - 1.
+// go down from end - 1. A turn takes the lowest one off what is left, so no range counts it.
+// Two tables side by side, here and below: one is by label and one by Ucode, so no place of one belongs to that place of the other.
 fn draw_half(half: u64, first: u8, end: usize, points: &mut [u8; 128], labels: &mut [u8; 128])
     requires { (first ≤ 64) × ((m : ℕ → Bool) × Drawing m (left_in half first m) points.old labels.old end) }
     ensures { (m : ℕ → Bool) → Drawing m (left_in half first m) points.old labels.old end
@@ -30,17 +31,17 @@ fn draw_half(half: u64, first: u8, end: usize, points: &mut [u8; 128], labels: &
     let mut left = half;
     let mut c = end;
     while 0 < left {
-        let u = first + u64::trailing_zeros(left) as u8;
+        let u = first + left.trailing_zeros() as u8;
         let at = u as usize;
         c -= 1;
         points[c] = u;
         labels[at] = c as u8;
-        left = left & (left - 1);
+        left &= left - 1;
     }
 }
 
-// Draws up both tables of a mask. The labels of its lower half go down from M - 1; the label of Ucode 63 says how many
-// Ucodes are above it, so those of its upper half go down from one less.
+// Draws up both tables of a mask; 255 is no label, as the definition `label_or_none` has it. The labels of its lower half go down from M - 1;
+// the label of Ucode 63 says how many Ucodes are above it, so those of its upper half go down from one less.
 fn draw(m: Mask, points: &mut [u8; 128], labels: &mut [u8; 128])
     ensures { (points.new ≡ point_table (has m)) × (labels.new ≡ label_table (has m)) }
 {
@@ -56,11 +57,12 @@ fn first_naming(r: Record, i: usize) -> usize
     ensures { FirstNaming r i result }
 {
     let index = r.index;
-    let mut j = 0;
-    while index[j] != index[i] {
-        j += 1;
+    for j in 0..i {
+        if index[j] == index[i] {
+            return j;
+        }
     }
-    j
+    i
 }
 
 // Draws up the tables of interval i after those of the intervals before it. Where one of these names the same mask, its
@@ -72,10 +74,8 @@ fn draw_interval(r: Record, i: usize, points: &mut [[u8; 128]; 6], labels: &mut 
 {
     let j = first_naming(r, i);
     if j < i {
-        let ucodes = points[j];
-        points[i] = ucodes;
-        let found = labels[j];
-        labels[i] = found;
+        points[i] = points[j];
+        labels[i] = labels[j];
         return;
     }
     draw(mask_of(r, i), &mut points[i], &mut labels[i]);
@@ -83,18 +83,15 @@ fn draw_interval(r: Record, i: usize, points: &mut [[u8; 128]; 6], labels: &mut 
 
 // Draws up the tables of all six intervals, and answers K, D and the sizes.
 pub fn draw_up(r: Record, points: &mut [[u8; 128]; 6], labels: &mut [[u8; 128]; 6]) -> Mapping
-    requires { Indexed r × (length points.old ≡ 6) × (length labels.old ≡ 6) }
+    requires { Indexed r }
     ensures { (result ≡ mapping_of r) × (points.new ≡ point_tables r) × (labels.new ≡ label_tables r) }
 {
-    let mut i = 0;
-    while i < 6 {
+    for i in 0..6 {
         draw_interval(r, i, points, labels);
-        i += 1;
     }
-    let sizes = sizes_of(r);
     Mapping {
         k: k_of(r),
         d: d_of(r),
-        sizes: sizes,
+        sizes: sizes_of(r),
     }
 }

@@ -1,14 +1,13 @@
 // What a call with a line state is refused for, and what a call of the sender or of the receiver needs of its buffers.
 #![tactic(auto)]
 
-ghost use Rattle.std.specs.Prelude.{◌≡◌, cond, ◌+◌, ◌/◌, ◌%◌, ◌<◌, ◌≤◌, ◌++◌};
+ghost use Rattle.std.specs.Prelude.{◌≡◌, cond, ◌+◌, ◌/◌, ◌%◌, ◌<◌, ◌≤◌, ◌*◌, ◌++◌, IfOk};
 ghost use Rattle.standard.specs.First.{first};
 ghost use Rattle.standard.specs.Bits.{bytes_for};
 ghost use Rattle.standard.specs.Frame.{call_bits};
 ghost use Rattle.standard.specs.Refusals.{outcome_answer, record_tests, line_tests, buffer_tests};
-ghost use Rattle.needs.specs.Stages.{NeededBy, first_of};
 
-use standard::{LineState, Outcome, Record, Refusal};
+use standard::{LineState, Record, Refusal};
 use state_faults::state_fault;
 
 // How many of so many frames are control frames, from a frame place on.
@@ -28,76 +27,67 @@ fn data_bytes(r: Record, control: bool, place: u8, frames: usize) -> usize
     ensures { result ≡ bytes_for (call_bits r control place frames) }
 {
     let fewer = 6 * control_frames(control, place, frames);
-    (frames * constellation::d_of(r) - fewer + 7) / 8
+    (frames * constellation::d_of(r) - fewer).div_ceil(8)
 }
 
 // Refusals 13, 14, 18, 19 and 15.
-fn line_fault(r: Record, state: LineState, frames: usize) -> Outcome
+fn line_fault(r: Record, state: LineState, frames: usize) -> Result<(), Refusal>
     ensures { outcome_answer result ≡ first (line_tests r state frames) }
 {
     if (1 <= frames) & (r.drn == 0) {
-        return Outcome::Refused(Refusal::FramesAtCleardown);
+        return Err(Refusal::FramesAtCleardown);
     }
-    let fault = state_fault(state);
-    if let Outcome::Refused(_) = fault {
-        return fault;
-    }
+    state_fault(state)?;
     if 1024 < frames {
-        return Outcome::Refused(Refusal::TooManyFrames);
+        return Err(Refusal::TooManyFrames);
     }
-    Outcome::Done
+    Ok(())
 }
 
 // Refusals 4, 9, 10, 25, 11 to 14, 18, 19 and 15.
-fn call_fault(r: Record, state: LineState, frames: usize) -> Outcome
+fn call_fault(r: Record, state: LineState, frames: usize) -> Result<(), Refusal>
     ensures { outcome_answer result ≡ first (record_tests r ++ line_tests r state frames) }
 {
-    let fault = faults::record_fault(r);
-    if let Outcome::Refused(_) = fault {
-        return fault;
-    }
+    faults::record_fault(r)?;
     line_fault(r, state, frames)
 }
 
-// What a call is refused with before its buffers are looked at, and the bytes of data and the octets that it needs.
+// The bytes of data and the octets that a call needs.
 #[derive(Clone, Copy)]
 pub struct Needed {
-    pub fault: Outcome,
     pub bytes: usize,
     pub octets: usize,
 }
 
-// What a call of so many frames needs, or refusals 4, 9, 10, 25, 11 to 14, 18, 19 and 15.
-pub fn needed_by(r: Record, state: LineState, control: bool, frames: usize) -> Needed
-    ensures { NeededBy r state control frames result }
+// What a call of so many frames needs, or refusals 4, 9, 10, 25, 11 to 14, 18, 19 and 15, before its buffers are looked at.
+// The record, the state and the frames are handed on as the entries have them: a struct would be made for each call and taken apart.
+pub fn needed_by(
+    r: Record,
+    state: LineState,
+    control: bool,
+    frames: usize,
+) -> Result<Needed, Refusal>
+    ensures refusal { outcome_answer result ≡ first (record_tests r ++ line_tests r state frames) }
+    ensures bytes { IfOk result (λ needed. needed.bytes ≡ bytes_for (call_bits r control state.place frames)) }
+    ensures octets { IfOk result (λ needed. needed.octets ≡ 6 * frames) }
 {
-    let fault = call_fault(r, state, frames);
-    if let Outcome::Refused(_) = fault {
-        return Needed {
-            fault: fault,
-            bytes: 0,
-            octets: 0,
-        };
-    }
-    Needed {
-        fault: fault,
+    call_fault(r, state, frames)?;
+    Ok(Needed {
         bytes: data_bytes(r, control, state.place, frames),
         octets: 6 * frames,
-    }
+    })
 }
 
-// A refusal found before, or else 16 and 17: whether the buffer to be read, and one to be written, is shorter than needed.
-pub fn buffer_fault(before: Outcome, input: bool, output: bool) -> Outcome
-    ensures { outcome_answer result ≡ first_of (outcome_answer before) (first (buffer_tests input output)) }
+// Refusals 16 and 17: whether the buffer to be read, and one to be written, is shorter than needed.
+// Two flags, as the definition `buffer_tests` has them.
+pub fn buffer_fault(input: bool, output: bool) -> Result<(), Refusal>
+    ensures { outcome_answer result ≡ first (buffer_tests input output) }
 {
-    if let Outcome::Refused(_) = before {
-        return before;
-    }
     if input {
-        return Outcome::Refused(Refusal::InputTooShort);
+        return Err(Refusal::InputTooShort);
     }
     if output {
-        return Outcome::Refused(Refusal::OutputTooShort);
+        return Err(Refusal::OutputTooShort);
     }
-    Outcome::Done
+    Ok(())
 }

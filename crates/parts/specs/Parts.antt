@@ -1,16 +1,14 @@
 -- A text in parts, each of which ends with a character of its own: the words of a command, the lines of a table. Assumes nothing.
-use Rattle.std.specs.Prelude.{ℕ, zero, suc, ◌+◌, ◌*◌, ◌-◌, Bool, true, false, cond, ◌&&◌, List, [], ◌∷◌, map, eqb, ltb, leb, length}
-use Rattle.standard.specs.Bits.{weight}
-use Rattle.parts.specs.declared.Number.{Number}
+use Rattle.std.specs.Prelude.{ℕ, zero, suc, ◌+◌, ◌*◌, ◌-◌, Bool, cond, ◌&&◌, List, [], ◌∷◌, map, eqb, ltb, leb, length, Option, Some, None}
+use Rattle.std.specs.Char.{to_ascii_lowercase}
+use Rattle.std.specs.List.{before_first, after_first, count_by, list_all, zip}
 
 -- the characters before the first one that is e, and those after it
-unfoldable pub before : ℕ → List ℕ → List ℕ
-before e [] = []
-before e (c ∷ cs) = cond (eqb c e) [] (c ∷ before e cs)
+abbrev pub before : ℕ → List ℕ → List ℕ
+before e text = before_first (λ c. eqb c e) text
 
-unfoldable pub past : ℕ → List ℕ → List ℕ
-past e [] = []
-past e (c ∷ cs) = cond (eqb c e) cs (past e cs)
+abbrev pub past : ℕ → List ℕ → List ℕ
+past e text = after_first (λ c. eqb c e) text
 
 -- a text from part k on, the first of which is part 0
 unfoldable pub parts_from : ℕ → ℕ → List ℕ → List ℕ
@@ -22,20 +20,16 @@ unfoldable pub part_at : ℕ → ℕ → List ℕ → List ℕ
 part_at e k text = before e (parts_from e k text)
 
 -- how many parts a text has
-unfoldable pub part_count : ℕ → List ℕ → ℕ
-part_count e [] = 0
-part_count e (c ∷ cs) = weight (eqb c e) + part_count e cs
+abbrev pub part_count : ℕ → List ℕ → ℕ
+part_count e text = count_by (λ c. eqb c e) text
 
 -- a capital letter made small
-unfoldable pub small : ℕ → ℕ
-small c = cond (leb 65 c && leb c 90) (c + 32) c
+abbrev pub small : ℕ → ℕ
+small c = to_ascii_lowercase c
 
 -- two texts are the same
-unfoldable pub same : List ℕ → List ℕ → Bool
-same [] [] = true
-same [] (d ∷ ds) = false
-same (c ∷ cs) [] = false
-same (c ∷ cs) (d ∷ ds) = eqb c d && same cs ds
+abbrev pub same : List ℕ → List ℕ → Bool
+same text word = eqb (length text) (length word) && list_all (λ p. eqb p.0 p.1) (zip text word)
 
 -- of the parts of a text from part k on, n of them, the number of the first that is the word, counted from 1; 0 where none is
 unfoldable pub which_from : ℕ → List ℕ → List ℕ → ℕ → ℕ → ℕ
@@ -51,9 +45,8 @@ abbrev pub is_digit : ℕ → Bool
 is_digit c = leb 48 c && leb c 57
 
 -- every character is a digit
-unfoldable pub all_digits : List ℕ → Bool
-all_digits [] = true
-all_digits (c ∷ cs) = is_digit c && all_digits cs
+abbrev pub all_digits : List ℕ → Bool
+all_digits word = list_all is_digit word
 
 -- the number that digits say behind the number n
 unfoldable pub value_from : ℕ → List ℕ → ℕ
@@ -61,5 +54,5 @@ value_from n [] = n
 value_from n (c ∷ cs) = value_from (10 * n + (c - 48)) cs
 
 -- the number that a word of 1 to 18 digits says
-unfoldable pub number_in : List ℕ → Number
-number_in word = cond (ltb 0 (length word) && ltb (length word) 19 && all_digits word) (Number.Is (value_from 0 word)) Number.None
+unfoldable pub number_in : List ℕ → Option ℕ
+number_in word = cond (ltb 0 (length word) && ltb (length word) 19 && all_digits word) (Some (value_from 0 word)) None

@@ -1,36 +1,21 @@
 // A text in parts, each of which ends with a character of its own: the words of a command, the lines of a table.
 #![tactic(auto)]
 
-ghost use Rattle.std.specs.Prelude.{◌≡◌, true, map, ◌+◌, ◌-◌, ◌≤◌, length, take, drop};
-ghost use Rattle.parts.specs.Parts.{small as Parts·small, same as Parts·same, which as Parts·which};
+ghost use Rattle.std.specs.Prelude.{◌≡◌, true, map, ◌+◌, ◌-◌, ◌≤◌, eqb, length, take, drop, MatchOption};
+ghost use Rattle.std.specs.List.{position_or_len};
+ghost use Rattle.parts.specs.Parts.{small, same as Parts·same, which as Parts·which};
 ghost use Rattle.parts.specs.Parts.{before, past, parts_from, part_at, part_count, all_digits, value_from, number_in};
 
-// The places from which and up to which a part stands.
-#[derive(Clone, Copy)]
-pub struct Part {
-    pub start: usize,
-    pub end: usize,
-}
+use std::ops::Range;
 
-// A number that a word says, or none.
-#[derive(Clone, Copy)]
-pub enum Number {
-    Is(u64),
-    None,
-}
-
-// The place of the first character from `start` on that is e; where none is, the text's end, or `start` past it.
+// The place where the part from `start` on ends: that of the first e, or the text's end where there is none.
 fn end_from(text: &[u8], e: u8, start: usize) -> usize
-    ensures { result ≡ start + length (before e (drop start text.now)) }
+    requires { start ≤ length text.now }
+    ensures place { result ≡ start + position_or_len (λ c. eqb c e) (drop start text.now) }
+    ensures within { result ≤ length text.now }
 {
-    let mut end = start;
-    while end < text.len() {
-        if text[end] == e {
-            return end;
-        }
-        end += 1;
-    }
-    end
+    let rest = &text[start..];
+    start + rest.iter().position(|c| *c == e).unwrap_or(rest.len())
 }
 
 // The place where the part after the one from `start` on begins; the text's end where there is none.
@@ -38,150 +23,83 @@ fn start_after(text: &[u8], e: u8, start: usize) -> usize
     requires { start ≤ length text.now }
     ensures { (result ≤ length text.now) × (drop result text.now ≡ past e (drop start text.now)) }
 {
-    let end = end_from(text, e, start);
-    if end < text.len() {
-        return end + 1;
-    }
-    end
+    text.len().min(end_from(text, e, start) + 1)
 }
 
 // Part k of a text, the first of which is part 0; nothing where the text has fewer. From its start on the text is part k and those after it.
-pub fn part_at(text: &[u8], e: u8, k: usize) -> Part
+pub fn part_at(text: &[u8], e: u8, k: usize) -> Range<usize>
     ensures { (result.start ≤ result.end) × (result.end ≤ length text.now)
         × (drop result.start text.now ≡ parts_from e k text.now)
         × (take (result.end - result.start) (drop result.start text.now) ≡ part_at e k text.now) }
 {
     let mut start = 0;
-    let mut i = 0;
-    while i < k {
+    for i in 0..k {
         start = start_after(text, e, start);
-        i += 1;
     }
-    Part {
-        start,
-        end: end_from(text, e, start),
-    }
+    start..end_from(text, e, start)
 }
 
 // The same, as a part of the text.
 pub fn nth_part(text: &[u8], e: u8, k: usize) -> &[u8]
     ensures { result.now ≡ part_at e k text.now }
 {
-    let found = part_at(text, e, k);
-    let start = found.start;
-    let end = found.end;
-    &text[start..end]
+    &text[part_at(text, e, k)]
 }
 
 // How many parts a text has.
 pub fn part_count(text: &[u8], e: u8) -> usize
     ensures { (result ≡ part_count e text.now) × (result ≤ length text.now) }
 {
-    let mut count = 0;
-    let mut i = 0;
-    while i < text.len() {
-        count += (text[i] == e) as usize;
-        i += 1;
-    }
-    count
-}
-
-// A capital letter made small; any other character as it is.
-fn small(c: u8) -> u8
-    ensures { result ≡ Parts·small c }
-{
-    if (65 <= c) & (c <= 90) {
-        return c + 32;
-    }
-    c
+    text.iter().filter(|c| **c == e).count()
 }
 
 // Whether a text is the word in small letters.
+// `eq_ignore_ascii_case` would make the text small too: the definition `same` compares it as it stands.
 fn same(text: &[u8], word: &[u8]) -> bool
-    ensures { result ≡ Parts·same text.now (map Parts·small word.now) }
+    ensures { result ≡ Parts·same text.now (map small word.now) }
 {
-    if text.len() != word.len() {
-        return false;
-    }
-    let mut i = 0;
-    while i < text.len() {
-        if text[i] != small(word[i]) {
-            return false;
-        }
-        i += 1;
-    }
-    true
+    let lowered = word.iter().map(|c| c.to_ascii_lowercase());
+    text.len() == word.len() && text.iter().zip(lowered).all(|(c, d)| *c == d)
 }
 
-// Which part of a text is the word, in small letters or capitals, counted from 1; 0 where none is.
-pub fn which(text: &[u8], e: u8, word: &[u8]) -> usize
-    ensures { result ≡ Parts·which e text.now word.now }
+// Which part of a text is the word, in small letters or capitals; none where no part is.
+pub fn which(text: &[u8], e: u8, word: &[u8]) -> Option<usize>
+    ensures { MatchOption result (Parts·which e text.now word.now ≡ 0) (λ k. Parts·which e text.now word.now ≡ k + 1) }
 {
-    let count = part_count(text, e);
-    let mut k = 0;
-    while k < count {
-        let part = part_at(text, e, k);
-        let start = part.start;
-        let end = part.end;
-        k += 1;
-        if same(&text[start..end], word) {
-            return k;
+    for k in 0..part_count(text, e) {
+        if same(nth_part(text, e, k), word) {
+            return Some(k);
         }
     }
-    0
+    None
 }
 
 // Whether every character is a digit.
 pub fn all_digits(word: &[u8]) -> bool
     ensures { result ≡ all_digits word.now }
 {
-    let mut i = 0;
-    while i < word.len() {
-        if !((48 <= word[i]) & (word[i] <= 57)) {
-            return false;
-        }
-        i += 1;
-    }
-    true
-}
-
-// The value of a digit.
-fn digit(c: u8) -> u64
-    ensures { result ≡ c - 48 }
-{
-    if c < 48 {
-        return 0;
-    }
-    c as u64 - 48
+    word.iter().all(|c| c.is_ascii_digit())
 }
 
 // The number that up to 18 digits say.
+// `parse` takes a str and answers a Result, and no digits here fail.
 fn value_of(word: &[u8]) -> u64
     requires { (length word.now ≤ 18) × (all_digits word.now ≡ true) }
     ensures { result ≡ value_from 0 word.now }
 {
-    let mut value: u64 = 0;
-    let mut i = 0;
-    while i < word.len() {
-        let d = digit(word[i]);
-        value = 10 * value + d;
-        i += 1;
+    let mut value = 0;
+    for c in word {
+        value = 10 * value + (*c - b'0') as u64;
     }
     value
 }
 
 // The number that a word of 1 to 18 digits says.
-pub fn number_in(word: &[u8]) -> Number
+pub fn number_in(word: &[u8]) -> Option<u64>
     ensures { result ≡ number_in word.now }
 {
-    if word.len() == 0 {
-        return Number::None;
+    if (1..=18).contains(&word.len()) && all_digits(word) {
+        return Some(value_of(word));
     }
-    if 18 < word.len() {
-        return Number::None;
-    }
-    if !all_digits(word) {
-        return Number::None;
-    }
-    Number::Is(value_of(word))
+    None
 }

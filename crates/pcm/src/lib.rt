@@ -6,9 +6,10 @@ ghost use Rattle.standard.specs.Octets.{positive_octet, octet, sign_of, ucode_of
 ghost use Rattle.standard.specs.Refusals.{outcome_answer};
 ghost use Rattle.standard.specs.Calls.{linear_call, linear_refusal, linear_samples};
 
-use standard::{Law, Outcome, Refusal};
+use standard::{Law, Refusal};
 
 // The positive octet of Ucode 0. XOR with a Ucode makes it that Ucode's.
+// No twin of `cases::name_of`: that gives a word for each law, this an octet, and a match on two laws is all that both have.
 fn first_octet(law: Law) -> u8
     ensures { result ≡ positive_octet law 0 }
 {
@@ -64,17 +65,15 @@ fn sample_of(law: Law, octet: u8) -> i32
 }
 
 // The entry: each octet's signed linear value into `samples`; refusal 17 where it is shorter than `octets`.
-pub fn linear(law: Law, octets: &[u8], samples: &mut [i32]) -> Outcome
-    ensures { (outcome_answer result ≡ linear_refusal (linear_call law octets.now samples.old))
-        × (samples.new ≡ linear_samples (linear_call law octets.now samples.old)) }
+pub fn linear(law: Law, octets: &[u8], samples: &mut [i32]) -> Result<(), Refusal>
+    ensures refusal { outcome_answer result ≡ linear_refusal (linear_call law octets.now samples.old) }
+    ensures written { samples.new ≡ linear_samples (linear_call law octets.now samples.old) }
 {
     if samples.len() < octets.len() {
-        return Outcome::Refused(Refusal::OutputTooShort);
+        return Err(Refusal::OutputTooShort);
     }
-    let mut i = 0;
-    while i < octets.len() {
-        samples[i] = sample_of(law, octets[i]);
-        i += 1;
+    for (i, octet) in octets.iter().enumerate() {
+        samples[i] = sample_of(law, *octet);
     }
-    Outcome::Done
+    Ok(())
 }

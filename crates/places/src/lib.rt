@@ -1,65 +1,50 @@
 // Where the settings of a junction stand in a settings file.
 #![tactic(auto)]
 
-ghost use Rattle.std.specs.Prelude.{◌≡◌, true, ◌+◌, ◌-◌, ◌<◌, ◌≤◌, length, take, drop};
-ghost use Rattle.standard.specs.Settings.{entry_at, is_file};
-ghost use Rattle.entries.specs.Entries.{inside, place_after};
-ghost use Rattle.places.specs.Finding.{FoundIn, cp_place};
+ghost use Rattle.std.specs.Prelude.{◌≡◌, true, ◌<◌, ◌≤◌, length};
+ghost use Rattle.standard.specs.Settings.{is_file};
+ghost use Rattle.entries.specs.Entries.{LieInside};
+ghost use Rattle.places.specs.Finding.{FoundIn, cp_number};
 
-use entries::{count_below, number_at, size_of, wide};
+use entries::{Entries, entries_in};
 use standard::Version;
 use versions::version_in;
 
-// What a call needs to know of a file: its version, the number of its entries, and how many of them stand before those of a junction and up
-// to their end.
+// What a call needs to know of a file: its version, its entries, and how many of them stand before those of a junction and up to their end.
+// `below` and `upto` are two numbers of entries and no Range, as the definition `rewritten` takes them.
 #[derive(Clone, Copy)]
-pub struct Found {
+pub struct Found<'a> {
     pub version: Version,
-    pub entries: usize,
+    pub entries: Entries<'a>,
     pub below: usize,
     pub upto: usize,
 }
 
-pub fn found_in(s: &[u8], j: usize) -> Found
+pub fn found_in(s: &[u8], j: usize) -> Found<'_>
     requires { (is_file s.now ≡ true) × (j < 65536) }
-    ensures { FoundIn s.now j result }
+    ensures { FoundIn s.entry j result }
 {
-    let v = version_in(s);
-    let w = v.start;
-    let c = v.count;
-    let entries = number_at(s, s.len() - (c + w + 1), c);
-    let below = count_below(s, w, entries, j);
-    let upto = count_below(s, w, entries, j + 1);
+    let version = version_in(s);
+    let entries = entries_in(s, version);
     Found {
-        version: v,
+        version,
         entries,
-        below,
-        upto,
+        below: entries.count_below(j),
+        upto: entries.count_below(j + 1),
     }
 }
 
-// Where a CP stands in a file.
-#[derive(Clone, Copy)]
-pub struct Part {
-    pub from: usize,
-    pub to: usize,
-}
-
-// The place of the CP of entry number k, or of no byte.
-pub fn cp_place(s: &[u8], w: usize, k: usize, has: bool) -> Part
-    requires { (has ≡ true → inside w s.now (length s.now) (k + 1) 0 ≡ true) × (k < 65536) × (w ≤ 4) }
-    ensures from_le_to { (result.from ≤ result.to) × (result.to ≤ length s.now) × (result.to < result.from + 256)
-        × (result ≡ cp_place w s.now k has) }
-    ensures s_value { has ≡ true → take (result.to - result.from) (drop result.from s.now)
-        ≡ (entry_at s.now (place_after w s.now k 0)).cp }
+// The CP of entry number k.
+#[tactic(auto, using(crate::proofs::Opening::here_room))]
+pub fn cp_of<'a>(entries: &Entries<'a>, k: usize) -> &'a [u8]
+    requires inside { LieInside entries.now }
+    requires start_bound { entries.now.start ≤ 4 }
+    requires number { (k < entries.now.count) × (k < 65536) }
+    ensures bytes { result.now ≡ cp_number entries.now k }
+    ensures short { length result.now < 256 }
 {
-    if has {
-        let at = size_of(s, w, 0, k, w);
-        let from = at + 4;
-        return Part {
-            from,
-            to: from + wide(s[at + 3]),
-        };
-    }
-    Part { from: 0, to: 0 }
+    let at = entries.place_after(k);
+    let from = at + 4;
+    let to = from + usize::from(entries.file[at + 3]);
+    &entries.file[from..to]
 }

@@ -1,22 +1,18 @@
 -- What the planner answers, by what came of the choice. Assumes nothing.
-use mathlib.Core.Path.{◌≡◌, refl, sym, ap, ◌∙◌}
+use mathlib.Core.Path.{◌≡◌, ap, ◌∙◌}
 use Prim.Native.Nat.{ℕ, ◌+◌, ◌≤◌, ◌<◌}
 use mathlib.Core.Bool.{true, false}
 use mathlib.Core.List.{[], ◌∷◌}
 use native.Mathlib.Omega.{arith}
 use borrow.Author.Tests.{lt-ltb, le-ltb}
-use Rattle.standard.specs.Lists.{list_from, list_where}
+use Rattle.standard.specs.Lists.{list_from}
 use Rattle.standard.specs.First.{bare, first}
 use Rattle.standard.specs.Bits.{field}
 use Rattle.standard.specs.Constellation.{size_of}
-use Rattle.standard.specs.Plan.{Choice, points_for, linear_values, sum_of_squares, sum_of, lowest_mask}
-use Rattle.standard.specs.Refusals.{refusal_answer, outcome_answer, rate_or_spacing_outside, no_mask, sum_exceeds_ceiling, plan_tests}
-use Rattle.standard.specs.Calls.{PlanCall, accepted, plan_call, plan_refusal, plan_points, plan_mask, plan_halves, plan_sum}
+use Rattle.standard.specs.Plan.{Choice, points_for, sum_of, lowest_mask}
+use Rattle.standard.specs.Refusals.{rate_or_spacing_outside, no_mask, sum_exceeds_ceiling, plan_tests}
+use Rattle.standard.specs.Calls.{PlanCall, plan_call, plan_refusal, plan_points, plan_mask, plan_halves, plan_sum}
 use Rattle.standard.specs.declared.Law.{Law}
-use Rattle.standard.specs.declared.Outcome.TheVariants.{Done, Refused}
-use Rattle.standard.specs.declared.Planned.{Planned}
-use Rattle.standard.specs.declared.Refusal.{Refusal}
-use Rattle.standard.proofs.Stages.{refused_not}
 use Rattle.standard.proofs.Plan.{size-wanted, accepted-mask}
 use Rattle.choosing.specs.Choosing.{Before}
 use Rattle.choosing.specs.declared.Chosen.{Chosen}
@@ -24,18 +20,6 @@ use Rattle.choosing.specs.declared.Chosen.{Chosen}
 module _ (k : ℕ) (l : Law) (d ceiling : ℕ) where
   abbrev call : PlanCall
   call = plan_call k l d ceiling
-
-  abbrev Answers : Planned → Type 0
-  Answers r =
-      (outcome_answer r.outcome ≡ plan_refusal call) × (r.points ≡ plan_points call) × (r.mask ≡ plan_halves call) × (r.sum ≡ plan_sum call)
-
-  -- nothing stands beside a refusal
-  pub nothing : (x : Refusal) (r : Planned) → r ≡ record { outcome = Refused x; points = 0; mask = 0 ∷ 0 ∷ []; sum = 0 }
-      → refusal_answer x ≡ plan_refusal call → Answers r
-  unfolding plan_points plan_halves plan_sum plan_mask list_from field linear_values list_where sum_of_squares
-  nothing x r z e =
-      let n : accepted (plan_refusal call) ≡ false = refused_not (Refused x) x (plan_refusal call) refl e in
-      rw z (e, rw n, rw n, rw n)
 
   pub outside : rate_or_spacing_outside k d ≡ true → bare 26 ≡ plan_refusal call
   unfolding plan_refusal plan_tests first
@@ -62,14 +46,23 @@ module _ (k : ℕ) (l : Law) (d ceiling : ℕ) where
       unfolding plan_refusal plan_tests first sum_exceeds_ceiling
       above s = rw (inside, enough, lt-ltb ceiling (sum_of l (lowest_mask l d (points_for k))) (omega (arith, sum_is)))
 
-      within : high.sum ≤ ceiling → plan_refusal call ≡ bare 0
+      pub within : high.sum ≤ ceiling → plan_refusal call ≡ bare 0
       unfolding plan_refusal plan_tests first sum_exceeds_ceiling
       within s = rw (inside, enough, le-ltb ceiling (sum_of l (lowest_mask l d (points_for k))) (omega (arith, sum_is)))
 
-      pub given : high.sum ≤ ceiling → (low : Chosen) → low.bits ≡ field (lowest_mask l d M) 0 64 → high.bits ≡ field (lowest_mask l d M) 64 64
-          → Answers (record { outcome = Done; points = M; mask = low.bits ∷ high.bits ∷ []; sum = high.sum })
-      unfolding plan_points plan_halves plan_sum list_from
-      given s low p q =
-          let e : plan_refusal call ≡ bare 0 = within s in
-          let a : plan_mask call ≡ lowest_mask l d (points_for k) = accepted-mask call e in
-          (sym e, rw e m, rw (a, p, q, m), rw a sum_is)
+      pub points_given : high.sum ≤ ceiling → M ≡ plan_points call
+      unfolding plan_points
+      points_given s = rw (within s) m
+
+      pub mask_given : high.sum ≤ ceiling → (low : Chosen) → low.bits ≡ field (lowest_mask l d M) 0 64 → high.bits ≡ field (lowest_mask l d M) 64 64
+          → low.bits ∷ high.bits ∷ [] ≡ plan_halves call
+      unfolding plan_halves list_from
+      mask_given s low p q =
+          let a : plan_mask call ≡ lowest_mask l d (points_for k) = accepted-mask call (within s) in
+          rw (a, p, q, m)
+
+      pub sum_given : high.sum ≤ ceiling → high.sum ≡ plan_sum call
+      unfolding plan_sum
+      sum_given s =
+          let a : plan_mask call ≡ lowest_mask l d (points_for k) = accepted-mask call (within s) in
+          rw a sum_is

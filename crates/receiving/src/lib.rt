@@ -12,11 +12,10 @@ use channel::{data_of, is_control, keep, lost_after, next_done, next_place, widt
 use coding::scrambler::descramble_past;
 use coding::signs::signs_in;
 use frame::{Carried, doubtful_after};
-use hearing::hear;
-use mapping::Mapping;
-use standard::Law;
+use hearing::{Receiver, hear};
 
 // A frame received: its mark, the state left but for the sequence's bits, and its data bits.
+// The mark is a number, as in `Heard`: it goes out as a byte, and the bits of a marked frame are bits too.
 #[derive(Clone, Copy)]
 pub struct FrameReceived {
     pub mark: u8,
@@ -34,24 +33,23 @@ fn if_good(good: bool, bits: u64) -> u64
     0
 }
 
-// Receives six octets: the mark, the state left, and the frame's data bits. The channel is on or off.
+// Receives six octets, a slice of the line's, which as an array would be an Option: the mark, the state left, and the frame's data bits. The
+// channel is on or off.
 pub fn receive_frame(
-    law: Law,
-    mapping: Mapping,
-    labels: &[[u8; 128]; 6],
+    receiver: &Receiver,
     on: bool,
     line: Carried,
-    sequence: &mut [u8],
+    sequence: &mut [u8; 12],
     octets: &[u8],
 ) -> FrameReceived
-    requires { ((r : Record) × Receivable r mapping labels.now line) × (length sequence.old ≡ 12) × (length octets.now ≡ 6) }
-    ensures { (r : Record) → Receivable r mapping labels.now line
-        → ReceivedAs r law (six_in on octets.now) line sequence.old result sequence.new }
+    requires { ((r : Record) × Receivable r receiver.now.mapping receiver.now.labels.now line) × (length octets.now ≡ 6) }
+    ensures { (r : Record) → Receivable r receiver.now.mapping receiver.now.labels.now line
+        → ReceivedAs r receiver.now.law (six_in on octets.now) line sequence.old result sequence.new }
 {
     let control = is_control(on, line.place);
-    let width = width_of(mapping, control);
+    let width = width_of(receiver.mapping, control);
     let signs = signs_in(octets);
-    let heard = hear(law, mapping, labels, line.sign, signs, octets);
+    let heard = hear(receiver, line.sign, signs, octets);
     let good = heard.mark == 0;
     let plain = descramble_past(line.past, data_of(control, heard.bits), width);
     keep(control, line.done, heard.bits % 64, sequence);

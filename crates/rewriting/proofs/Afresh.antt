@@ -1,6 +1,5 @@
 -- A file written afresh: its entries, then its trailer. Assumes nothing.
 use mathlib.Core.Path.{◌≡◌, refl, sym, ap, ap₂, ◌∙◌}
-use mathlib.Core.Bool.{Bool, true, false, cond}
 use mathlib.Core.List.{List, [], ◌∷◌, ◌++◌, append_assoc}
 use Prim.Native.Nat.{ℕ, zero, suc, ◌+◌, ◌-◌, ◌%◌, ◌<◌, ◌≤◌}
 use native.Mathlib.Omega.{arith}
@@ -13,11 +12,16 @@ use Rattle.theorems_settings.proofs.Numbers.{length-little}
 use Rattle.theorems_settings.proofs.FileBack.{length-file}
 use Rattle.laying.specs.declared.Spot.{Spot}
 use Rattle.laying.specs.Laying.{laid, Lays, given}
-use Rattle.rewriting.specs.Rewriting.{own_entries, rewritten, written_refusal}
-use Rattle.entries.specs.Entries.{inside, place_after, sizes}
+use Rattle.rewriting.specs.declared.JunctionSettings.{JunctionSettings}
+use Rattle.entries.specs.declared.Entries.{Entries}
+use denote.Ref.{Bor}
+use Rattle.std.specs.Int.{from_bool}
+use Rattle.std.specs.Prelude.{Option, Some, None, is_some}
+use Rattle.rewriting.specs.Rewriting.{own_entries, before, behind, rewritten, written_refusal}
+use Rattle.entries.specs.Entries.{place_after, sizes, listed}
 use Rattle.standard.specs.Calls.{written_length, written_out}
 use Rattle.laying.proofs.Joining.{laid_next}
-use Rattle.entries.proofs.Sums.{length-bytes, sizes-append, inside_split, place-size}
+use Rattle.entries.proofs.Sums.{length-bytes, sizes-append}
 
 count_entries : (w : ℕ) (s : List ℕ) (n at : ℕ) → length (entries_at w s at n) ≡ n
 unfolding entries_at
@@ -42,66 +46,48 @@ trailer-laid d o1 o2 o3 body count last w c v v' ev hv h q1 q2 q3 =
 
 -- ---- how long it is
 
-module _ (v : ℕ) (s : List ℕ) (n k u : ℕ) (ins : inside v s (length s) n 0 ≡ true) (hk : k ≤ n) (hu : u ≤ n) where
-  split_at : (a : ℕ) → a ≤ n → (inside v s (length s) a 0 ≡ true) × (inside v s (length s) (n - a) (place_after v s a 0) ≡ true)
-  split_at a h =
-      let e : a + (n - a) ≡ n = omega arith in inside_split v s (length s) a (n - a) 0 (ap (λ (m : ℕ). inside v s (length s) m 0) e ∙ ins)
+module _ (w : ℕ) (o : JunctionSettings) where
+  pub own_none : o.previous ≡ None → 4 + length o.current.now + w ≡ sizes w (own_entries o)
+  unfolding entry given sizes
+  own_none e = rw e (omega arith)
 
-  pub front-inside : inside v s (length s) k 0 ≡ true
-  front-inside = (split_at k hk).0
+  pub own_some : (x : Bor (List ℕ)) → o.previous ≡ Some x → 4 + length o.current.now + w + 4 + length x.now + w ≡ sizes w (own_entries o)
+  unfolding entry given sizes
+  own_some x e = rw e (omega arith)
 
-  pub upto_inside : inside v s (length s) u 0 ≡ true
-  upto_inside = (split_at u hu).0
+pub own_count : (o : JunctionSettings) → length (own_entries o) ≡ 1 + from_bool (is_some o.previous)
+unfolding entry given
+own_count o = go o.previous
+  where
+    go : (p : Option (Bor (List ℕ))) → length (own_entries (record o { previous = p })) ≡ 1 + from_bool (is_some p)
+    go None = refl
+    go (Some x) = refl
 
-  pub place_is : (at : ℕ) → at ≡ sizes v (entries_at v s 0 u) → at ≡ place_after v s u 0
-  place_is at e = e ∙ sym (place-size v s u 0 upto_inside ∙ omega arith)
+module _ (r : Entries) (k u : ℕ) (own : List Entry) where
+  pub body_is : (w : ℕ) → sizes w (listed (before r k)) + sizes w own + sizes w (listed (behind r u)) ≡ sizes w (rewritten r k u own)
+  unfolding rewritten
+  body_is w =
+      omega (
+        arith,
+        sizes-append w (listed (before r k)) (own ++ listed (behind r u)),
+        sizes-append w own (listed (behind r u)),
+      )
 
-  pub rest-inside : (at : ℕ) → at ≡ sizes v (entries_at v s 0 u) → inside v s (length s) (n - u) at ≡ true
-  rest-inside at e = ap (inside v s (length s) (n - u)) (place_is at e) ∙ (split_at u hu).1
+  pub count_is : k + length own + (r.count - u) ≡ length (rewritten r k u own)
+  unfolding rewritten
+  count_is =
+      omega (
+        arith,
+        count_entries r.start r.file.now k r.from,
+        count_entries r.start r.file.now (r.count - u) (place_after r.start r.file.now u r.from),
+        length-append (listed (before r k)) (own ++ listed (behind r u)),
+        length-append own (listed (behind r u)),
+      )
 
-  module _ (w j : ℕ) (c p : List ℕ) (has : Bool) where
-    abbrev es : List Entry
-    es = rewritten v s n k u (own_entries j c has p)
-
-    own-sizes : sizes w (own_entries j c has p) ≡ (4 + length c + w) + cond has (4 + length p + w) 0
-    unfolding entry given sizes
-    own-sizes = go has
-      where
-        go : (b : Bool) → sizes w (own_entries j c b p) ≡ (4 + length c + w) + cond b (4 + length p + w) 0
-        go true = omega arith
-        go false = omega arith
-
-    own-count : length (own_entries j c has p) ≡ 1 + cond has 1 0
-    unfolding entry given
-    own-count = go has
-      where
-        go : (b : Bool) → length (own_entries j c b p) ≡ 1 + cond b 1 0
-        go true = omega arith
-        go false = omega arith
-
-    pub body_is : (at front own rest : ℕ) → at ≡ sizes v (entries_at v s 0 u) → front ≡ sizes w (entries_at v s 0 k)
-        → own ≡ (4 + length c + w) + cond has (4 + length p + w) 0
-        → rest ≡ sizes w (entries_at v s at (n - u)) → front + own + rest ≡ sizes w es
-    unfolding rewritten
-    body_is at front own rest ea ef ep er =
-        let er' : rest ≡ sizes w (entries_at v s (place_after v s u 0) (n - u)) = er
-        ∙ ap (λ (m : ℕ). sizes w (entries_at v s m (n - u))) (place_is at ea) in
-        let sum : sizes w es ≡ sizes w (entries_at v s 0 k) +
-        (sizes w (own_entries j c has p) + sizes w (entries_at v s (place_after v s u 0) (n - u)))
-        = sizes-append w (entries_at v s 0 k) (own_entries j c has p ++ entries_at v s (place_after v s u 0) (n - u))
-        ∙ ap (λ (m : ℕ). sizes w (entries_at v s 0 k) + m)
-        (sizes-append w (own_entries j c has p) (entries_at v s (place_after v s u 0) (n - u))) in
-        omega (arith, own-sizes)
-
-    pub count_is : k + (1 + cond has 1 0) + (n - u) ≡ length es
-    unfolding rewritten
-    count_is =
-        let a : length (entries_at v s 0 k) ≡ k = count_entries v s k 0 in
-        let b : length (entries_at v s (place_after v s u 0) (n - u)) ≡ n - u = count_entries v s (n - u) (place_after v s u 0) in
-        sym (length-append (entries_at v s 0 k) (own_entries j c has p ++ entries_at v s (place_after v s u 0) (n - u))
-        ∙ ap₂ (λ (x y : ℕ). x + y) a
-        (length-append (own_entries j c has p) (entries_at v s (place_after v s u 0) (n - u)) ∙ ap₂ (λ (x y : ℕ). x + y) own-count b)
-        ∙ omega arith)
+-- the entries from number u on, by the place where they begin
+pub behind_is : (r : Entries) (u at : ℕ) → at ≡ place_after r.start r.file.now u r.from
+    → ◌≡◌ {A = Entries} (record r { from = at; count = r.count - u }) (behind r u)
+behind_is r u at e = ap {B = Entries} (λ (m : ℕ). record r { from = m; count = r.count - u }) e
 
 -- ---- the answer
 

@@ -1,68 +1,53 @@
 -- Entries of a file, those of a junction, and others of the file, laid one behind the other. Assumes nothing.
-use mathlib.Core.Bool.{Bool}
 use mathlib.Core.List.{List, ◌++◌}
 use mathlib.Core.Option.{some}
-use Prim.Native.Nat.{ℕ, ◌+◌, ◌≤◌}
+use Prim.Native.Nat.{◌+◌, ◌≤◌}
 use native.Mathlib.Omega.{arith}
 use lib.ListN.{length}
-use Rattle.standard.specs.Settings.{Entry, entries_at, entry}
-use Rattle.entries.specs.Entries.{sizes}
-use Rattle.entries.proofs.Sums.{sizes-append}
-use Rattle.laying.specs.Laying.{Lays, given}
-use Rattle.laying.specs.declared.Spot.{Spot}
-use Rattle.laying.proofs.Joining.{lays_to, lays_long, lays_append}
+use Rattle.standard.specs.Settings.{Entry, entry}
+use Rattle.entries.specs.declared.Entries.{Entries}
+use Rattle.entries.specs.Entries.{listed, sizes}
+use Rattle.laying.specs.declared.Writer.{Writer}
+use Rattle.laying.specs.Laying.{Writes, Room, given}
+use Rattle.laying.proofs.Joining.{room_front, room_behind, writes_append}
+use Rattle.rewriting.specs.declared.JunctionSettings.{JunctionSettings}
 use Rattle.rewriting.specs.Rewriting.{own_entries, around}
 
 -- each run has room where all of them have
 
-module _ (w v : ℕ) (s d : List ℕ) (k at m j : ℕ) (c : List ℕ) (has : Bool) (p : List ℕ)
-    (h : sizes w (around v s k (own_entries j c has p) at m) ≤ length d) where
-  abbrev begin : Spot
-  begin = record { to = 0; before = 0 }
-
-  abbrev xs : List Entry
-  xs = entries_at v s 0 k
-
+module _ (p : Writer) (front : Entries) (o : JunctionSettings) (rest : Entries) (h : Room p (around front (own_entries o) rest)) where
   abbrev us : List Entry
-  us = entry 0 j (some c)
+  us = entry 0 o.junction (some o.current.now)
 
   abbrev vs : List Entry
-  vs = entry 1 j (given has p)
+  vs = entry 1 o.junction (given o.previous)
 
-  abbrev ys : List Entry
-  ys = entries_at v s at m
+  pub room_first : Room p (listed front)
+  room_first = room_front p (listed front) (own_entries o ++ listed rest) h
 
-  total : sizes w xs + ((sizes w us + sizes w vs) + sizes w ys) ≤ length d
-  total = omega (arith, h, sizes-append w xs ((us ++ vs) ++ ys), sizes-append w (us ++ vs) ys, sizes-append w us vs)
+  module _ (q1 : Writer) (l1 : Writes p (listed front) q1) where
+    second : Room q1 (own_entries o ++ listed rest)
+    second = room_behind p (listed front) (own_entries o ++ listed rest) q1 l1 h
 
-  pub room-first : 0 + sizes w xs ≤ length d
-  room-first = omega (arith, total)
+    own : Room q1 (us ++ vs)
+    own = room_front q1 (own_entries o) (listed rest) second
 
-  module _ (o1 : List ℕ) (q1 : Spot) (l1 : Lays w d begin xs o1 q1) where
-    second : q1.to + ((sizes w us + sizes w vs) + sizes w ys) ≤ length o1
-    second = omega (arith, total, lays_to w d begin xs o1 q1 l1, lays_long w d begin xs o1 q1 l1 room-first)
-
-    room_us : q1.to + sizes w us ≤ length o1
-    room_us = omega (arith, second)
-
-    pub room_second : q1.to + (4 + length c + w) ≤ length o1
+    pub room_second : q1.spot.to + (4 + length o.current.now + q1.start) ≤ length q1.out.now
     unfolding entry sizes
-    room_second = omega (arith, room_us)
+    room_second = omega (arith, room_front q1 us vs own)
 
-    module _ (o2 : List ℕ) (q2 : Spot) (l2 : Lays w o1 q1 us o2 q2) where
-      third : q2.to + (sizes w vs + sizes w ys) ≤ length o2
-      third = omega (arith, second, lays_to w o1 q1 us o2 q2 l2, lays_long w o1 q1 us o2 q2 l2 room_us)
+    module _ (q2 : Writer) (l2 : Writes q1 us q2) where
+      pub room_third : Room q2 vs
+      room_third = room_behind q1 us vs q2 l2 own
 
-      pub room_third : q2.to + sizes w vs ≤ length o2
-      room_third = omega (arith, third)
+      module _ (q3 : Writer) (l3 : Writes q2 vs q3) where
+        written : Writes q1 (us ++ vs) q3
+        written = writes_append q1 us q2 l2 (room_front q1 us vs own) vs q3 l3
 
-      module _ (o3 : List ℕ) (q3 : Spot) (l3 : Lays w o2 q2 vs o3 q3) where
-        pub room_fourth : q3.to + sizes w ys ≤ length o3
-        room_fourth = omega (arith, third, lays_to w o2 q2 vs o3 q3 l3, lays_long w o2 q2 vs o3 q3 l3 room_third)
+        pub room_fourth : Room q3 (listed rest)
+        room_fourth = room_behind q1 (own_entries o) (listed rest) q3 written second
 
-        pub all_laid : (o4 : List ℕ) (q4 : Spot) → Lays w o3 q3 ys o4 q4 → Lays w d begin (around v s k (own_entries j c has p) at m) o4 q4
-        all_laid o4 q4 l4 =
-            let own = lays_append w o1 q1 us o2 q2 l2 room_us vs o3 q3 l3 in
-            let room : q1.to + sizes w (us ++ vs) ≤ length o1 = omega (arith, second, sizes-append w us vs) in
-            lays_append w d begin xs o1 q1 l1 room-first ((us ++ vs) ++ ys) o4 q4
-            (lays_append w o1 q1 (us ++ vs) o3 q3 own room ys o4 q4 l4)
+        pub all_laid : (q4 : Writer) → Writes q3 (listed rest) q4 → Writes p (around front (own_entries o) rest) q4
+        all_laid q4 l4 =
+            writes_append p (listed front) q1 l1 room_first (own_entries o ++ listed rest) q4
+            (writes_append q1 (own_entries o) q3 written own (listed rest) q4 l4)

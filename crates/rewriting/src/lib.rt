@@ -1,113 +1,120 @@
 // A settings file written afresh: entries copied from another one, those of a junction among them, and the trailer.
 #![tactic(auto)]
 
-ghost use Rattle.std.specs.Prelude.{◌≡◌, true, cond, [], ◌∷◌, ◌++◌, ◌+◌, ◌<◌, ◌≤◌, length};
+ghost use Rattle.std.specs.Prelude.{◌≡◌, [], ◌∷◌, ◌++◌, ◌+◌, ◌<◌, ◌≤◌, length, IfOk, IfSome};
 ghost use Rattle.standard.specs.Refusals.{outcome_answer};
 ghost use Rattle.standard.specs.Settings.{little, file_of, trailer};
 ghost use Rattle.standard.specs.Calls.{written_length, written_out};
-ghost use Rattle.entries.specs.Entries.{inside, sizes};
-ghost use Rattle.laying.specs.Laying.{laid, Lays};
-ghost use Rattle.rewriting.specs.Rewriting.{own_entries, around, rewritten, written_refusal};
+ghost use Rattle.entries.specs.Entries.{LieInside, Few, sizes};
+ghost use Rattle.laying.specs.Laying.{laid, Room, Writes};
+ghost use Rattle.rewriting.specs.Rewriting.{own_entries, around, rewritten, written_refusal, Short};
 
-use entries::{one_if, size_of, wide};
-use laying::{Spot, copy_entries, put_entry, put_number, put_previous};
-use standard::{FileWritten, Outcome, Refusal, Version};
+use entries::Entries;
+use laying::{Spot, Writer, put_number};
+use standard::{Refusal, Version};
 
-// Writes k entries of a file from its first one on, those of a junction, and m entries of the file from `at` on.
+// The settings of a junction: the CP of its current one and, where there is one, that of the previous one.
+#[derive(Clone, Copy)]
+pub struct JunctionSettings<'a> {
+    pub junction: usize,
+    pub current: &'a [u8],
+    pub previous: Option<&'a [u8]>,
+}
+
+// Writes entries of a file, those of a junction, and others of the file.
 fn put_entries(
-    out: &mut [u8],
-    w: usize,
-    s: &[u8],
-    v: usize,
-    k: usize,
-    at: usize,
-    m: usize,
-    junction: usize,
-    current: &[u8],
-    previous: &[u8],
-    has: bool,
-) -> Spot
-    requires k_value { (inside v s.now (length s.now) k 0 ≡ true) × (inside v s.now (length s.now) m at ≡ true) }
-    requires m_in_bounds { sizes w (around v s.now k (own_entries junction current.now has previous.now) at m) ≤ length out.old }
-    requires current_len_bound { (length current.now < 256) × (length previous.now < 256) }
-    ensures { Lays w out.old (record { to = 0; before = 0 })
-        (around v s.now k (own_entries junction current.now has previous.now) at m) out.new result }
+    writer: &mut Writer<'_>,
+    front: &Entries<'_>,
+    own: &JunctionSettings<'_>,
+    rest: &Entries<'_>,
+)
+    requires inside { LieInside front.now × LieInside rest.now }
+    requires room { Room writer.old (around front.now (own_entries own.now) rest.now) }
+    requires short { Short own.now }
+    ensures same_buffer { writer.new.out.ghost_name ≡ writer.old.out.ghost_name }
+    ensures lays { Writes writer.old (around front.now (own_entries own.now) rest.now) writer.new }
 {
-    let front = copy_entries(out, w, Spot { to: 0, before: 0 }, s, v, 0, k);
-    let first = put_entry(out, w, front, junction, 0, current);
-    let own = put_previous(out, w, first, junction, previous, has);
-    copy_entries(out, w, own, s, v, at, m)
+    writer.copy_entries(front);
+    writer.put_entry(own.junction, 0, own.current);
+    writer.put_previous(own.junction, own.previous);
+    writer.copy_entries(rest);
 }
 
 // The bytes of the entries of one junction.
-fn own_size(w: usize, current: usize, previous: usize, has: bool) -> usize
-    requires { (w ≤ 4) × (current < 256) × (previous < 256) }
-    ensures value { result ≡ (4 + current + w) + cond has (4 + previous + w) 0 }
+fn own_size(w: usize, own: &JunctionSettings<'_>) -> usize
+    requires { (w ≤ 4) × Short own.now }
+    ensures value { result ≡ sizes w (own_entries own.now) }
     ensures upper_bound { result ≤ 526 }
 {
-    if has {
-        return 4 + current + w + (4 + previous + w);
+    let current = 4 + own.current.len() + w;
+    match own.previous {
+        Some(cp) => current + 4 + cp.len() + w,
+        None => current,
     }
-    4 + current + w
 }
 
-// Writes the trailer behind `body` bytes of entries.
-fn put_trailer(out: &mut [u8], body: usize, g: Version, count: usize, last: usize)
-    requires { (body + trailer g ≤ length out.old) × (g.start ≤ 4) × (g.count ≤ 2) }
-    ensures { out.new ≡ laid out.old body (little g.count count ++ (little g.start last ++
-        (g.byte ∷ []))) }
+// Writes the trailer behind the entries.
+fn put_trailer(writer: &mut Writer<'_>, form: Version, count: usize)
+    requires room { writer.old.spot.to + trailer form ≤ length writer.old.out.now }
+    requires form { (form.start ≤ 4) × (form.count ≤ 2) }
+    ensures same_buffer { writer.new.out.ghost_name ≡ writer.old.out.ghost_name }
+    ensures lays { writer.new.out.now ≡ laid writer.old.out.now writer.old.spot.to
+        (little form.count count ++ (little form.start writer.old.spot.before ++ (form.byte ∷ []))) }
 {
-    let c = g.count;
-    let w = g.start;
-    let byte = wide(g.byte);
-    put_number(out, body, count, c);
-    put_number(out, body + c, last, w);
-    put_number(out, body + c + w, byte, 1);
+    let to = writer.spot.to;
+    put_number(writer.out, to, count, form.count);
+    put_number(writer.out, to + form.count, writer.spot.before, form.start);
+    put_number(
+        writer.out,
+        to + form.count + form.start,
+        usize::from(form.byte),
+        1,
+    );
 }
 
-// Writes a file of the form g afresh: the first k of the n entries of a file with starts of v bytes, the entries of one junction,
-// and those from number u on. Refusal 17.
+// Writes a file of a form afresh: the first `below` entries of a file, those of one junction, and those from number `upto` on. Refusal 17.
 pub fn written(
-    s: &[u8],
-    v: usize,
-    n: usize,
-    k: usize,
-    u: usize,
-    g: Version,
-    junction: usize,
-    current: &[u8],
-    previous: &[u8],
-    has: bool,
+    entries: &Entries<'_>,
+    below: usize,
+    upto: usize,
+    own: &JunctionSettings<'_>,
+    form: Version,
     out: &mut [u8],
-) -> FileWritten
-    requires n_value { inside v s.now (length s.now) n 0 ≡ true }
-    requires n_bound { (n < 65536) × (v ≤ 4) × (k ≤ n) × (u ≤ n) }
-    requires start_bound { (g.start ≤ 4) × (g.count ≤ 2) }
-    requires current_len_bound { (length current.now < 256) × (length previous.now < 256) }
-    ensures { let own = own_entries junction current.now has previous.now in
-        let t = file_of g (rewritten v s.now n k u own) in
-        let a = written_refusal (length out.old) t in
-        (outcome_answer result.outcome ≡ a) × (result.length ≡ written_length a t) × (out.new ≡ written_out a t out.old) }
+) -> Result<usize, Refusal>
+    requires inside { LieInside entries.now }
+    requires few { Few entries.now }
+    requires numbers { (below ≤ entries.now.count) × (upto ≤ entries.now.count) }
+    requires form { (form.start ≤ 4) × (form.count ≤ 2) }
+    requires short { Short own.now }
+    ensures refusal { let t = file_of form (rewritten entries.now below upto (own_entries own.now)) in
+        outcome_answer result ≡ written_refusal (length out.old) t }
+    ensures length { let t = file_of form (rewritten entries.now below upto (own_entries own.now)) in
+        IfOk result (λ n. n ≡ written_length (written_refusal (length out.old) t) t) }
+    ensures written { let t = file_of form (rewritten entries.now below upto (own_entries own.now)) in
+        out.new ≡ written_out (written_refusal (length out.old) t) t out.old }
 {
-    let w = g.start;
-    let c = g.count;
-    let at = size_of(s, v, 0, u, v);
-    let m = n - u;
-    let front = size_of(s, v, 0, k, w);
-    let own = own_size(w, current.len(), previous.len(), has);
-    let body = front + own + size_of(s, v, at, m, w);
-    let length = body + (c + w + 1);
+    let front = Entries {
+        count: below,
+        ..*entries
+    };
+    let rest = Entries {
+        from: entries.place_after(upto),
+        count: entries.count - upto,
+        ..*entries
+    };
+    let w = form.start;
+    let body = front.size_of(w) + own_size(w, own) + rest.size_of(w);
+    let length = body + form.count + w + 1;
     if out.len() < length {
-        return FileWritten {
-            outcome: Outcome::Refused(Refusal::OutputTooShort),
-            length: 0,
-        };
+        return Err(Refusal::OutputTooShort);
     }
-    let end = put_entries(out, w, s, v, k, at, m, junction, current, previous, has);
-    let last = end.before;
-    put_trailer(out, body, g, k + (1 + one_if(has)) + m, last);
-    FileWritten {
-        outcome: Outcome::Done,
-        length,
-    }
+    let mut writer = Writer {
+        out,
+        start: w,
+        spot: Spot { to: 0, before: 0 },
+    };
+    put_entries(&mut writer, &front, own, &rest);
+    let count = below + 1 + usize::from(own.previous.is_some()) + rest.count;
+    put_trailer(&mut writer, form, count);
+    Ok(length)
 }

@@ -2,11 +2,9 @@
 use mathlib.Core.Path.{◌≡◌, sym, ap, ap₂, ◌∙◌}
 use mathlib.Core.Bool.{Bool, false, ◌&&◌}
 use mathlib.Core.List.{List}
-use Prim.Native.Nat.{ℕ, ◌-◌, ◌*◌, ◌^◌, ◌<◌, ◌≤◌}
+use Prim.Native.Nat.{ℕ, ◌-◌, ◌<◌, ◌≤◌}
 use native.Mathlib.Nat.{zero-add}
-use native.Mathlib.Omega.{arith}
 use lib.Dec.{leb}
-use lib.Pow.{pow_mono}
 use lib.ListN.{length, get_or}
 use borrow.Author.Tests.{eq-eqb, ne_eqb, le-leb, lt-leb}
 use Rattle.standard.specs.declared.Version.{Version}
@@ -17,9 +15,6 @@ use Rattle.theorems_settings.proofs.Logic.{and_no, and_yes}
 use Rattle.theorems_settings.proofs.Order.{orderly_is}
 use Rattle.theorems_settings.proofs.Files.{laid_is}
 use Rattle.rules.proofs.WalkIs.{walk_is}
-
-pub two_bytes : (v k : ℕ) → k ≤ 2 → v < 2 ^ (8 * k) → v < 65536
-two_bytes v k h l = let m : 2 ^ (8 * k) ≤ 2 ^ 16 = pow_mono {j = 16} (omega arith) in omega arith
 
 module _ (v : Version) (s : List ℕ) where
   pub file-short : length s < trailer v → false ≡ is_laid v s

@@ -28,6 +28,11 @@ module _ (w : ℕ) (s : List ℕ) (end at before : ℕ) where
   placed-fits h l =
       sym (and_yes _ _ (le-leb (at + 4) end (omega arith)) ∙ and_yes _ _ (le-leb (at + 4 + get_or s (at + 3) 0 + w) end (omega arith)))
 
+-- a placed entry has room
+pub room : (w : ℕ) (s : List ℕ) (end at before : ℕ) (r : Bool) → r ≡ placed w s end at before → r ≡ true
+    → at + 4 + get_or s (at + 3) 0 + w ≤ end
+room w s end at before r e h = placed-next w s end at before (sym e ∙ h)
+
 -- what is left to walk
 module _ (w : ℕ) (s : List ℕ) (end last most n : ℕ) where
   pub record Walking (at before bar : ℕ) (follow : Bool) (seen i : ℕ) : Type 0 where

@@ -5,6 +5,7 @@ use mathlib.Core.Bool.{Bool, true, false, cond, not, ◌&&◌}
 use mathlib.Core.List.{List, [], ◌++◌}
 use native.Mathlib.Nat.{mod-eq_of_lt, le_trans}
 use native.Mathlib.Omega.{arith}
+use Rattle.std.specs.Prelude.{Option, Some, None}
 use lib.Dec.{eqb}
 use lib.ListN.{length, get_or, take, drop, length-drop}
 use Rattle.standard.specs.Lists.{list_from}
@@ -32,6 +33,7 @@ use Rattle.mapping.specs.declared.Mapping.{Mapping}
 use Rattle.mapping.specs.Tables.{mapping_of}
 use Rattle.mapping.proofs.Tables.{size-le, point_in}
 use Rattle.frame.specs.declared.Carried.{Carried}
+use Rattle.channel.specs.Line.{joined}
 use Rattle.coding.specs.Past.{Scrambled}
 use Rattle.frame.specs.Parts.{state_of}
 use Rattle.sending.specs.Parts.{outgoing, Sendable, octet_in}
@@ -90,7 +92,7 @@ module _ (r : Record) (l : Law) (m : Mapping) (vs : List ℕ) (ps : List (List �
 
 -- six bits or none, and then others, as a number
 with_six_lem : (b : Bool) (g : ℕ → Bool) (p : ℕ) (ds : List Bool)
-    → cond b (cond b (field g p 6) 0 + 64 * number_of ds) (number_of ds) ≡ number_of (cond b (list_from g p 6) [] ++ ds)
+    → joined (cond b (Some (field g p 6)) None) (number_of ds) ≡ number_of (cond b (list_from g p 6) [] ++ ds)
 with_six_lem true g p ds =
     let bits = list_from g p 6 in
     let number : number_of bits ≡ field g p 6 = ap number_of (sym (bits-field g p 6)) ∙ bits-number 6 (field g p 6) (field_lt g p 6) in
@@ -119,8 +121,8 @@ module _ (r : Record) (l : Law) (m : Mapping) (vs : List ℕ) (ps : List (List �
   -- ctl tells a control frame, k is how many data bits it has, w the number of them scrambled, six that of the control bits, and cs are the
   -- sequence's bits afterwards
   module _ (ctl : Bool) (et : ctl ≡ is_control on x.place) (k : ℕ) (ek : k ≡ cond ctl m.k m.d) (w q : ℕ)
-      (sent : Scrambled x.past word k w q) (six : ℕ) (cs : List ℕ) (kept : cs ≡ cond (ctl && eqb x.done 0) (sequence_bytes v) bs)
-      (e6 : six ≡ cond ctl (field (bit_at cs) (6 * x.done) 6) 0) where
+      (sent : Scrambled x.past word k w q) (six : Option ℕ) (cs : List ℕ) (kept : cs ≡ cond (ctl && eqb x.done 0) (sequence_bytes v) bs)
+      (e6 : six ≡ cond ctl (Some (field (bit_at cs) (6 * x.done) 6)) None) where
     same_bits : scramble from.history (bits_of k word) ≡ scramble from.history f.bits
     same_bits =
         ap (λ (y : ℕ). scramble from.history (bits_of y word))
@@ -131,11 +133,11 @@ module _ (r : Record) (l : Law) (m : Mapping) (vs : List ℕ) (ps : List (List �
     sequence_is = kept ∙ ap (λ (b : Bool). cond (b && eqb x.done 0) (sequence_bytes v) bs) et
 
     -- what code joins is the number of the bits on the line
-    pub sent_line : (t : ℕ) → t ≡ cond ctl (six + 64 * w) w → t ≡ number_of (line_bits from f)
+    pub sent_line : (t : ℕ) → t ≡ joined six w → t ≡ number_of (line_bits from f)
     unfolding line_bits control_bits
     sent_line t e =
         let ds = scramble from.history f.bits in
-        e ∙ ap₂ (λ (a b : ℕ). cond ctl (a + 64 * b) b) e6 (sent.out ∙ ap number_of same_bits) ∙ with_six_lem ctl (bit_at cs) (6 * x.done) ds
+        e ∙ ap₂ joined e6 (sent.out ∙ ap number_of same_bits) ∙ with_six_lem ctl (bit_at cs) (6 * x.done) ds
         ∙ ap₂ (λ (b : Bool) (y : List ℕ). number_of (cond b (list_from (bit_at y) (6 * x.done) 6) [] ++ ds)) et sequence_is
 
     pub sent-state : (y : Carried) → y.past ≡ q → y.sign ≡ nth (frame_signs x.sign (line_bits from f)) 5 → y.doubtful ≡ x.doubtful

@@ -22,43 +22,46 @@ fn write_octets(law: Law, points: &[[u8; 128]; 6], labels: [u64; 6], signs: u64,
     requires { ((i : ℕ) → i < 6 → get_or labels i 0 < 128) × (length octets.old ≡ 6) }
     ensures { octets.new ≡ list_from (octet_in law points.now labels signs) 0 6 }
 {
-    let mut i = 0;
-    while i < 6 {
+    for i in 0..6 {
         let label = labels[i] as usize;
         let u = points[i][label];
         octets[i] = octet_of(law, bit_of(signs, i), u);
-        i += 1;
     }
 }
 
-// Sends a frame's data bits, the lowest of `bits`, as six octets, and answers the state left. `inverses` has the sizes' reciprocals. The
-// channel is on or off, and `word` is for a sequence that starts with the frame.
+// What the frames of a call are sent by: the law, K, D and the sizes, the sizes' reciprocals, and for each interval the Ucodes of its mask in
+// label order.
+#[derive(Clone, Copy)]
+pub struct Sender<'a> {
+    pub law: Law,
+    pub mapping: Mapping,
+    pub inverses: [u64; 6],
+    pub points: &'a [[u8; 128]; 6],
+}
+
+// Sends a frame's data bits, the lowest of `bits`, as six octets, and answers the state left. The channel is on or off, and `word` is for a
+// sequence that starts with the frame. The octets are a slice of the call's: as an array, a part of it would be an Option.
 pub fn send_frame(
-    law: Law,
-    mapping: Mapping,
-    inverses: [u64; 6],
-    points: &[[u8; 128]; 6],
+    sender: &Sender,
     on: bool,
     word: u64,
     line: Carried,
-    sequence: &mut [u8],
+    sequence: &mut [u8; 12],
     bits: u64,
     octets: &mut [u8],
 ) -> Carried
-    requires { ((r : Record) × Sendable r mapping inverses points.now line) × (length sequence.old ≡ 12)
-        × (length octets.old ≡ 6) }
-    ensures { (r : Record) → Sendable r mapping inverses points.now line
-        → SentAs r law (outgoing r on word line bits) line sequence.old result sequence.new octets.new }
+    requires { ((r : Record) × Sendable r sender.now.mapping sender.now.inverses sender.now.points.now line) × (length octets.old ≡ 6) }
+    ensures { (r : Record) → Sendable r sender.now.mapping sender.now.inverses sender.now.points.now line
+        → SentAs r sender.now.law (outgoing r on word line bits) line sequence.old result sequence.new octets.new }
 {
-    let sizes = mapping.sizes;
     let control = is_control(on, line.place);
     let starts = control & (line.done == 0);
-    let sent = scramble_past(line.past, bits, width_of(mapping, control));
+    let sent = scramble_past(line.past, bits, width_of(sender.mapping, control));
     let six = bits_to_send(control, starts, word, line.done, sequence);
-    let together = joined_bits(control, six, sent.bits);
+    let together = joined_bits(six, sent.bits);
     let signs = signs_of(line.sign, together);
-    let labels = labels_of(sizes, inverses, together >> 6);
-    write_octets(law, points, labels, signs, octets);
+    let labels = labels_of(sender.mapping.sizes, sender.inverses, together >> 6);
+    write_octets(sender.law, sender.points, labels, signs, octets);
     Carried {
         past: sent.past,
         sign: bit_of(signs, 5),

@@ -1,76 +1,77 @@
 -- Each way out of the three entries. Assumes nothing.
-use mathlib.Core.Path.{◌≡◌, refl, sym, ap, ap₂, ◌∙◌}
-use mathlib.Core.Option.{Option, none, some}
+use mathlib.Core.Path.{◌≡◌, refl, sym, ap, ap₂, subst, ◌∙◌}
+use mathlib.Core.Option.{Option, some}
 use Prim.Native.Nat.{ℕ, ◌+◌, ◌/◌, ◌<◌, ◌≤◌}
-use mathlib.Core.Bool.{Bool, true, false, not, cond}
-use mathlib.Core.List.{List}
+use mathlib.Core.Bool.{Bool, true, false, cond, true≢false}
+use mathlib.Core.List.{List, [], ◌∷◌}
 use native.Mathlib.Omega.{arith}
-use borrow.Author.Tests.{eqb-true, lt-ltb, lt-leb, le-leb}
-use lib.Dec.{eqb, ltb}
+use borrow.Author.Tests.{eqb-true, lt-leb, le-leb}
+use lib.Dec.{eqb}
 use lib.ListN.{length, drop, take}
 use lib.Seq.{take_at}
 use Rattle.standard.specs.First.{Answer, bare, first}
 use Rattle.standard.specs.Bits.{bytes_for}
-use Rattle.standard.specs.Record.{top_index, no_record}
+use Rattle.standard.specs.Record.{top_index}
 use Rattle.standard.specs.Cp.{cp_byte_count, cp_bytes}
-use Rattle.standard.specs.Refusals.{outcome_answer, record_tests, read_tests}
-use Rattle.standard.specs.Settings.{version_two, version_in, version_for, Entry, entry_at, entries_at, file_of, entries_in, settings_in, find}
+use Rattle.standard.specs.Refusals.{outcome_answer, refusal_answer, record_tests, read_tests}
+use Rattle.standard.specs.Settings.{version_two, version_in, version_for, Entry, file_of, entries_in, settings_in, find}
 use Rattle.standard.specs.Settings.{there, below, entry, replace, put, back, put_file, back_file, junctions, few, bit_count_of, readable}
-use Rattle.standard.specs.Settings.{all_readable, is_file, put_tests, back_tests, look_tests}
+use Rattle.standard.specs.Settings.{all_readable, is_file, file_broken, put_tests, back_tests, look_tests}
 use Rattle.standard.specs.Calls.{accepted, over, written_length, written_out, read_call, read_refusal, read_record, write_call, write_refusal}
 use Rattle.standard.specs.Calls.{write_bit_count, write_bytes, PutCall, put_refusal, BackCall, back_refusal, look_refusal, record_of, look_record}
-use Rattle.standard.specs.declared.Outcome.{Outcome}
-use Rattle.standard.specs.declared.Outcome.TheVariants.{Refused}
 use Rattle.standard.specs.declared.Record.{Record}
 use Rattle.standard.specs.declared.Refusal.{Refusal}
 use Rattle.standard.specs.declared.Version.{Version}
 use Rattle.standard.proofs.First.{None, none_first, first-none, first-append}
 use Rattle.standard.proofs.Refusals.{read_numbered}
-use Rattle.standard.proofs.Stages.{stage_hit}
+use Rattle.standard.proofs.Stages.{stage_hit, refused_not}
 use Rattle.theorems_settings.specs.Walk.{rising}
 use Rattle.theorems_settings.proofs.Logic.{and_right}
 use Rattle.theorems_settings.proofs.Shown.{pair}
 use Rattle.theorems_settings.proofs.Readable.{length-cp, record_write, record_top}
 use Rattle.theorems_settings.proofs.Bounds.{lawful_order, lawful-read}
 use Rattle.theorems_settings.proofs.Keeps.{junctions-put, good-lawful, found-readable, one-readable}
-use Rattle.entries.specs.Entries.{place_after}
+use Rattle.std.specs.Prelude as std
+use Rattle.std.specs.Prelude.{Result, Ok, Err, IfOk, is_none}
+use Rattle.std.specs.Int.{from_bool}
+use denote.Ref.{Bor}
+use Rattle.laying.specs.Laying.{given}
+use Rattle.entries.specs.Entries.{listed}
 use Rattle.rewriting.specs.Rewriting.{own_entries, rewritten, written_refusal}
 use Rattle.places.specs.declared.Found.{Found}
 use Rattle.places.specs.Finding.{FoundIn}
-use Rattle.settings.specs.Putting.{cp_put_tests, cp_put_refusal}
-use Rattle.settings.proofs.Finding.{replace_is, current_is, previous_is, own_is, there_is}
+use Rattle.settings.specs.Putting.{cp_put_tests, cp_put_refusal, number_shown}
+use Rattle.settings.proofs.Options.{none_counts}
+use Rattle.settings.proofs.Finding.{replace_is, current_is, previous_is}
 
 -- ---- a call that writes a file
 
--- it is answered a and writes t: the outcome's answer, the length and the buffer
-abbrev pub Writes : Answer → List ℕ → List ℕ → Answer → ℕ → List ℕ → Type 0
-Writes a t out o l x = (o ≡ a) × (l ≡ written_length a t) × (x ≡ written_out a t out)
+-- a refusal leaves the buffer as it is
+pub refused_keeps : (x : Refusal) (a : Answer) (t out : List ℕ) → refusal_answer x ≡ a → out ≡ written_out a t out
+refused_keeps x a t out e =
+    sym (ap (λ (b : Bool). cond b (over t out) out) (refused_not {X = ℕ} (Err x) x a refl e))
 
--- a refusal changes nothing
-pub refused-writes : (a : Answer) (t out : List ℕ) (o : Answer) (l : ℕ) → accepted a ≡ false → o ≡ a → l ≡ 0 → Writes a t out o l out
-refused-writes a t out o l z e q = (
-  e,
-  q ∙ sym (ap (λ (b : Bool). cond b (length t) 0) z),
-  sym (ap (λ (b : Bool). cond b (over t out) out) z),
-)
+-- what is written of t under the answer a: the outcome, the length and the buffer
+abbrev pub Writes : Answer → List ℕ → List ℕ → Result ℕ Refusal → List ℕ → Type 0
+Writes a t out o x = (outcome_answer o ≡ a) × IfOk o (λ n. n ≡ written_length a t) × (x ≡ written_out a t out)
 
-pub same_writes : (a b : Answer) (t u out : List ℕ) (o : Answer) (l : ℕ) (x : List ℕ) → a ≡ b → t ≡ u → Writes a t out o l x
-    → Writes b u out o l x
-same_writes a b t u out o l x p q h =
-    (h.0 ∙ p, h.1 ∙ ap₂ written_length p q, h.2 ∙ ap₂ (λ (c : Answer) (y : List ℕ). written_out c y out) p q)
+pub same_writes : (a b : Answer) (t u out : List ℕ) (o : Result ℕ Refusal) (x : List ℕ) → a ≡ b → t ≡ u → Writes a t out o x
+    → Writes b u out o x
+same_writes a b t u out o x p q h =
+    subst (λ (y : List ℕ). Writes b y out o x) q (subst (λ (c : Answer). Writes c t out o x) p h)
 
 -- ---- the settings of a file by the numbers found
 
-module _ (s : List ℕ) (j : ℕ) (e : is_file s ≡ true) (r : Found) (f : FoundIn s j r) where
-  abbrev w : ℕ
-  w = r.version.start
+module _ (b : Bor (List ℕ)) (j : ℕ) (e : is_file b.now ≡ true) (r : Found) (f : FoundIn b j r) where
+  abbrev s : List ℕ
+  s = b.now
 
   abbrev es : List Entry
-  es = entries_at w s 0 r.entries
+  es = listed r.entries
 
   are : settings_in s ≡ es
   unfolding settings_in entries_in
-  are = ap₂ (λ (v : Version) (n : ℕ). entries_at v.start s 0 n) (sym f.version) (sym f.number)
+  are = sym (ap listed f.entries)
 
   order : rising 0 false es ≡ true
   order = ap (rising 0 false) (sym are) ∙ lawful_order (version_in s) (settings_in s) (good-lawful s e)
@@ -81,79 +82,72 @@ module _ (s : List ℕ) (j : ℕ) (e : is_file s ≡ true) (r : Found) (f : Foun
   end : r.upto ≡ length (below (j + 1) es)
   end = f.end ∙ ap (λ (xs : List Entry). length (below (j + 1) xs)) are
 
-  abbrev cp_at : ℕ → List ℕ
-  cp_at k = (entry_at s (place_after w s k 0)).cp
+  pub current-shown : number_shown r 0 ≡ find 0 j (settings_in s)
+  current-shown = sym (ap (find 0 j) are ∙ current_is r.entries j r.below r.upto order front end f.front_low f.end_low)
 
-  abbrev has : Bool
-  has = ltb r.below r.upto
+  pub previous-shown : number_shown r 1 ≡ find 1 j (settings_in s)
+  previous-shown = sym (ap (find 1 j) are ∙ previous_is r.entries j r.below r.upto order front end f.front_low f.end_low)
 
-  pub current-found : find 0 j (settings_in s) ≡ cond has (some (cp_at r.below)) none
-  current-found = ap (find 0 j) are ∙ current_is w s r.entries j r.below r.upto order front end f.front_low f.end_low
-
-  pub previous-found : find 1 j (settings_in s) ≡ cond (ltb (r.below + 1) r.upto) (some (cp_at (r.below + 1))) none
-  previous-found = ap (find 1 j) are ∙ previous_is w s r.entries j r.below r.upto order front end f.front_low f.end_low
-
-  pub current-shown : r.below < r.upto → (cp : List ℕ) → cp ≡ cp_at r.below → find 0 j (settings_in s) ≡ some cp
-  current-shown l cp q =
-      current-found ∙ ap (λ (b : Bool). cond b (some (cp_at r.below)) none) (lt-ltb r.below r.upto l) ∙ ap some (sym q)
-
-  replaced : (own : List Entry) → replace j own (settings_in s) ≡ rewritten w s r.entries r.below r.upto own
+  replaced : (own : List Entry) → replace j own (settings_in s) ≡ rewritten r.entries r.below r.upto own
   replaced own =
-      ap (replace j own) are ∙ replace_is w s r.entries j r.below r.upto order front end f.front_low f.end_low own
+      ap (replace j own) are ∙ replace_is r.entries j r.below r.upto order front end f.front_low f.end_low own
 
-  -- the junctions after a put
-  pub many_is : (cp : List ℕ) (one all : ℕ) → one ≡ cond (not has) 1 0 → all ≡ junctions es
-      → one + all ≡ junctions (put j cp (settings_in s))
-  unfolding put
-  many_is cp one all eo ea =
-      ap₂ (λ (a b : ℕ). a + b)
-      (eo ∙ turn has ∙ ap (λ (b : Bool). cond b 0 1) (sym (there_is (find 0 j (settings_in s)) has (cp_at r.below) current-found)))
-      (ea ∙ ap junctions (sym are))
-      ∙ sym (junctions-put j cp (find 0 j (settings_in s)) (settings_in s) (lawful_order (version_in s) (settings_in s) (good-lawful s e)))
-    where
-      turn : (b : Bool) → ◌≡◌ {A = ℕ} (cond (not b) 1 0) (cond b 0 1)
-      turn true = refl
-      turn false = refl
+  module _ (o : std.Option (Bor (List ℕ))) (shown : given o ≡ number_shown r 0) where
+    -- the junctions after a put
+    pub many_is : (cp : List ℕ) (one all : ℕ) → one ≡ from_bool (is_none o) → all ≡ junctions es
+        → one + all ≡ junctions (put j cp (settings_in s))
+    unfolding put
+    many_is cp one all eo ea =
+        ap₂ (λ (a b : ℕ). a + b)
+        (eo ∙ none_counts o ∙ ap (λ (x : Option (List ℕ)). cond (there x) 0 1) (shown ∙ current-shown))
+        (ea ∙ ap junctions (sym are))
+        ∙ sym (junctions-put j cp (find 0 j (settings_in s)) (settings_in s) (lawful_order (version_in s) (settings_in s) (good-lawful s e)))
 
-  module _ (cp : List ℕ) (many : ℕ) (em : many ≡ junctions (put j cp (settings_in s))) where
-    pub too_many : 400 < many → few version_two (put j cp (settings_in s)) ≡ false
-    unfolding few
-    too_many l = lt-leb (junctions (put j cp (settings_in s))) 400 (omega arith)
+    module _ (i : ℕ) (same : i ≡ j) (x : Bor (List ℕ)) where
+      pub put_is : (many : ℕ) → many ≡ junctions (put j x.now (settings_in s)) → (form : Version) → form ≡ version_for r.version many
+          → file_of form (rewritten r.entries r.below r.upto (own_entries (record { junction = i; current = x; previous = o })))
+          ≡ put_file s j x.now
+      unfolding put_file put
+      put_is many em form ef =
+          ap₂ file_of (ef ∙ ap₂ version_for f.version em)
+          (sym (replaced (own_entries (record { junction = i; current = x; previous = o })))
+          ∙ ap (λ (own : List Entry). replace j own (settings_in s))
+          (ap₂ (λ (m : ℕ) (p : Option (List ℕ)). pair m (some x.now) p) same (shown ∙ current-shown)))
 
-    pub not-many : many ≤ 400 → few version_two (put j cp (settings_in s)) ≡ true
-    unfolding few
-    not-many l = le-leb (junctions (put j cp (settings_in s))) 400 (omega arith)
+      pub back_is : some x.now ≡ number_shown r 1
+          → file_of r.version (rewritten r.entries r.below r.upto (own_entries (record { junction = i; current = x; previous = o })))
+          ≡ back_file s j
+      unfolding back_file back
+      back_is h =
+          ap₂ file_of f.version
+          (sym (replaced (own_entries (record { junction = i; current = x; previous = o })))
+          ∙ ap (λ (own : List Entry). replace j own (settings_in s))
+          (ap₂ (λ (m : ℕ) (p : Option (List ℕ)). pair m (some x.now) p) same (shown ∙ current-shown)
+          ∙ ap (λ (q : Option (List ℕ)). pair j q (find 0 j (settings_in s))) (h ∙ previous-shown)))
 
-    pub put_is : (form : Version) → form ≡ version_for r.version many → (old : List ℕ) → (has ≡ true → old ≡ cp_at r.below)
-        → file_of form (rewritten w s r.entries r.below r.upto (own_entries j cp has old)) ≡ put_file s j cp
-    unfolding put_file put
-    put_is form e old h =
-        ap₂ file_of (e ∙ ap₂ version_for f.version em)
-        (sym (replaced (own_entries j cp has old))
-        ∙ ap (λ (own : List Entry). replace j own (settings_in s))
-        (sym (own_is j cp (find 0 j (settings_in s)) has (cp_at r.below) old current-found h)))
+pub too_many : (es : List Entry) (many : ℕ) → many ≡ junctions es → 400 < many → few version_two es ≡ false
+unfolding few
+too_many es many e l = lt-leb (junctions es) 400 (omega arith)
 
-  pub back_is : (now old : List ℕ) → r.below + 1 < r.upto → now ≡ cp_at (r.below + 1) → old ≡ cp_at r.below
-      → file_of r.version (rewritten w s r.entries r.below r.upto (own_entries j now true old)) ≡ back_file s j
-  unfolding back_file back
-  back_is now old l en eo =
-      let p : find 1 j (settings_in s) ≡ some now
-      = previous-found ∙ ap (λ (b : Bool). cond b (some (cp_at (r.below + 1))) none) (lt-ltb (r.below + 1) r.upto l)
-      ∙ ap some (sym en) in
-      let c : find 0 j (settings_in s) ≡ cond true (some (cp_at r.below)) none
-      = current-found ∙ ap (λ (b : Bool). cond b (some (cp_at r.below)) none) (lt-ltb r.below r.upto (omega arith)) in
-      ap₂ file_of f.version
-      (sym (replaced (own_entries j now true old))
-      ∙ ap (λ (own : List Entry). replace j own (settings_in s))
-      (sym (ap (λ (o : Option (List ℕ)). pair j o (find 0 j (settings_in s))) p
-      ∙ own_is j now (find 0 j (settings_in s)) true (cp_at r.below) old c (λ z. eo))))
+pub not-many : (es : List Entry) (many : ℕ) → many ≡ junctions es → many ≤ 400 → few version_two es ≡ true
+unfolding few
+not-many es many e l = le-leb (junctions es) 400 (omega arith)
 
 -- ---- a put, its record's own refusals past
 
+-- the first test of a file
+pub sound : (s : List ℕ) → is_file s ≡ true → bare 0 ≡ first (file_broken s ∷ [])
+unfolding first
+sound s e = rw e
+
+pub broken : (s : List ℕ) → is_file s ≡ false → bare 22 ≡ first (file_broken s ∷ [])
+unfolding first
+broken s e = rw e
+
 module _ (s : List ℕ) (j : ℕ) (cp : List ℕ) (room : ℕ) where
-  pub cp-broken : is_file s ≡ false → bare 22 ≡ cp_put_refusal s j cp room
-  unfolding cp_put_refusal cp_put_tests first
-  cp-broken e = rw e
+  pub cp-first : (x : Refusal) → refusal_answer x ≡ first (file_broken s ∷ []) → refusal_answer x ≡ cp_put_refusal s j cp room
+  unfolding cp_put_refusal cp_put_tests
+  cp-first x e = stage_hit {X = ℕ} (Err x) x (file_broken s ∷ []) _ refl e
 
   pub cp-many : is_file s ≡ true → few version_two (put j cp (settings_in s)) ≡ false → bare 24 ≡ cp_put_refusal s j cp room
   unfolding cp_put_refusal cp_put_tests first
@@ -167,10 +161,9 @@ module _ (s : List ℕ) (j : ℕ) (cp : List ℕ) (room : ℕ) where
 -- ---- a put
 
 module _ (s : List ℕ) (c : PutCall) where
-  pub put-own : (o : Outcome) (x : Refusal) → o ≡ Refused x → outcome_answer o ≡ first (record_tests c.cp)
-      → outcome_answer o ≡ put_refusal s c
+  pub put-own : (x : Refusal) → refusal_answer x ≡ first (record_tests c.cp) → refusal_answer x ≡ put_refusal s c
   unfolding put_refusal put_tests
-  put-own o x q e = stage_hit o x (record_tests c.cp) _ q e
+  put-own x e = stage_hit {X = ℕ} (Err x) x (record_tests c.cp) _ refl e
 
   pub put-past : None (record_tests c.cp) → cp_put_refusal s c.junction (cp_bytes c.cp) (length c.out) ≡ put_refusal s c
   unfolding put_refusal put_tests cp_put_refusal cp_put_tests
@@ -183,6 +176,10 @@ module _ (r : Record) (b : List ℕ) (long : length b ≡ 122) (n : None (record
 
   done : accepted (write_refusal (write_call r b)) ≡ true
   done = record_write r b (omega (arith, short)) n
+
+  -- so the writer does not refuse it
+  pub never : (x : Refusal) → refusal_answer x ≡ write_refusal (write_call r b) → ⊥
+  never x e = true≢false (sym done ∙ refused_not {X = ℕ} (Err x) x (write_refusal (write_call r b)) refl e)
 
   pub count_is : (k : ℕ) → k ≡ write_bit_count (write_call r b) → ((k + 7) / 8 ≡ cp_byte_count (top_index r)) × ((k + 7) / 8 ≤ 122)
   unfolding write_bit_count
@@ -199,9 +196,9 @@ module _ (r : Record) (b : List ℕ) (long : length b ≡ 122) (n : None (record
 -- ---- going back
 
 module _ (s : List ℕ) (c : BackCall) where
-  pub back-broken : is_file s ≡ false → bare 22 ≡ back_refusal s c
-  unfolding back_refusal back_tests first
-  back-broken e = rw e
+  pub back-first : (x : Refusal) → refusal_answer x ≡ first (file_broken s ∷ []) → refusal_answer x ≡ back_refusal s c
+  unfolding back_refusal back_tests
+  back-first x e = stage_hit {X = ℕ} (Err x) x (file_broken s ∷ []) _ refl e
 
   pub back-missing : is_file s ≡ true → there (find 1 c.junction (settings_in s)) ≡ false → bare 23 ≡ back_refusal s c
   unfolding back_refusal back_tests first
@@ -222,13 +219,13 @@ reads cp c =
     (none_first (read_tests cp n) (read_numbered cp n) (eqb-true _ 0 (and_right (eqb (length cp) (bytes_for n)) _ c)))
 
 module _ (s : List ℕ) (j : ℕ) where
-  pub look-broken : is_file s ≡ false → (bare 22 ≡ look_refusal s j) × (no_record ≡ look_record s j)
-  unfolding look_refusal look_record look_tests first
-  look-broken e = rw e (refl, refl)
+  pub look-first : (x : Refusal) → refusal_answer x ≡ first (file_broken s ∷ []) → refusal_answer x ≡ look_refusal s j
+  unfolding look_refusal look_tests
+  look-first x e = stage_hit {X = ℕ} (Err x) x (file_broken s ∷ []) _ refl e
 
-  pub look-missing : is_file s ≡ true → there (find 0 j (settings_in s)) ≡ false → (bare 23 ≡ look_refusal s j) × (no_record ≡ look_record s j)
-  unfolding look_refusal look_record look_tests first
-  look-missing e m = rw (e, m) (refl, refl)
+  pub look-missing : is_file s ≡ true → there (find 0 j (settings_in s)) ≡ false → bare 23 ≡ look_refusal s j
+  unfolding look_refusal look_tests first
+  look-missing e m = rw (e, m)
 
   look-past : is_file s ≡ true → there (find 0 j (settings_in s)) ≡ true → bare 0 ≡ look_refusal s j
   unfolding look_refusal look_tests first
@@ -236,12 +233,11 @@ module _ (s : List ℕ) (j : ℕ) where
 
   -- a CP in a file is not refused, so its record is the one that is shown
   pub look-done : is_file s ≡ true → (cp : List ℕ) → find 0 j (settings_in s) ≡ some cp → (n : ℕ) → n ≡ bit_count_of (length cp)
-      → (o : Answer) (r : Record) → o ≡ read_refusal (read_call cp n) → r ≡ read_record (read_call cp n)
-      → (o ≡ look_refusal s j) × (r ≡ look_record s j)
+      → (read_refusal (read_call cp n) ≡ look_refusal s j) × (read_record (read_call cp n) ≡ look_record s j)
   unfolding look_record record_of read_record
-  look-done e cp q n en o r eo er =
+  look-done e cp q n en =
       let a = found-readable 0 j 1 (settings_in s) (lawful-read (version_in s) (settings_in s) (good-lawful s e)) in
       let c : readable cp ≡ true = one-readable j cp (ap (λ (x : Option (List ℕ)). all_readable (entry 1 j x)) (sym q) ∙ a) in
       let z : read_refusal (read_call cp n) ≡ bare 0 = ap (λ (k : ℕ). read_refusal (read_call cp k)) en ∙ reads cp c in
       let p : bare 0 ≡ look_refusal s j = look-past e (ap there q) in
-      (eo ∙ z ∙ p, er ∙ rw (z, ← p, q))
+      (z ∙ p, rw (z, ← p, q))

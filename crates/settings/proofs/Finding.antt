@@ -11,14 +11,15 @@ use borrow.Author.Tests.{lt-ltb, le-ltb, eq-eqb, ne_eqb}
 use lib.Dec.{eqb, ltb}
 use lib.ListN.{length, get_or, take, drop}
 use lib.Seq.{take_at, drop_at}
-use Rattle.standard.specs.Settings.{Entry, entry_at, next_at, entries_at, find, there, below, above, replace}
-use Rattle.theorems_settings.proofs.Shown.{pair, find-cons, find_other, below_yes, below_no, above_yes, above_no}
+use Rattle.standard.specs.Settings.{Entry, entry_at, next_at, entries_at, find, below, above, replace}
+use Rattle.theorems_settings.proofs.Shown.{find-cons, find_other, below_yes, below_no, above_yes, above_no}
 use Rattle.theorems_settings.specs.Walk.{rising}
 use Rattle.theorems_settings.proofs.Order.{Current, Previous, order_cases, rising_head, rising_tail, below_none, above-all}
 use Rattle.theorems_settings.proofs.Counting.{none_from, found_here}
-use Rattle.entries.specs.Entries.{place_after}
-use Rattle.laying.specs.Laying.{given}
-use Rattle.rewriting.specs.Rewriting.{own_entries, rewritten}
+use Rattle.entries.specs.declared.Entries.{Entries}
+use Rattle.entries.specs.Entries.{place_after, listed}
+use Rattle.places.specs.Finding.{cp_number}
+use Rattle.rewriting.specs.Rewriting.{rewritten}
 use Rattle.entries.proofs.Inside.{entries-append}
 
 -- below and above are the front and the end of a list in order
@@ -168,66 +169,56 @@ unfolding entries_at
 count_entries w s zero at = refl
 count_entries w s (suc n) at = ap suc (count_entries w s n (next_at w s at))
 
-module _ (w : ℕ) (s : List ℕ) (n : ℕ) where
-  split : (a : ℕ) → a ≤ n → entries_at w s 0 n ≡ entries_at w s 0 a ++ entries_at w s (place_after w s a 0) (n - a)
-  split a h = let e : n ≡ a + (n - a) = omega arith in ap (entries_at w s 0) e ∙ entries-append w s 0 a (n - a)
+module _ (r : Entries) where
+  abbrev w : ℕ
+  w = r.start
 
-  take-entries : (a : ℕ) → a ≤ n → take a (entries_at w s 0 n) ≡ entries_at w s 0 a
+  abbrev s : List ℕ
+  s = r.file.now
+
+  abbrev n : ℕ
+  n = r.count
+
+  split : (a : ℕ) → a ≤ n → entries_at w s r.from n ≡ entries_at w s r.from a ++ entries_at w s (place_after w s a r.from) (n - a)
+  split a h = let e : n ≡ a + (n - a) = omega arith in ap (entries_at w s r.from) e ∙ entries-append w s r.from a (n - a)
+
+  take-entries : (a : ℕ) → a ≤ n → take a (listed r) ≡ entries_at w s r.from a
   take-entries a h =
-      ap (take a) (split a h) ∙ take_at (entries_at w s 0 a) (entries_at w s (place_after w s a 0) (n - a)) a (count_entries w s a 0)
+      ap (take a) (split a h) ∙ take_at (entries_at w s r.from a) (entries_at w s (place_after w s a r.from) (n - a)) a (count_entries w s a r.from)
 
-  drop-entries : (a : ℕ) → a ≤ n → drop a (entries_at w s 0 n) ≡ entries_at w s (place_after w s a 0) (n - a)
+  drop-entries : (a : ℕ) → a ≤ n → drop a (listed r) ≡ entries_at w s (place_after w s a r.from) (n - a)
   drop-entries a h =
-      ap (drop a) (split a h) ∙ drop_at (entries_at w s 0 a) (entries_at w s (place_after w s a 0) (n - a)) a (count_entries w s a 0)
+      ap (drop a) (split a h) ∙ drop_at (entries_at w s r.from a) (entries_at w s (place_after w s a r.from) (n - a)) a (count_entries w s a r.from)
 
-  module _ (j k u : ℕ) (h : rising 0 false (entries_at w s 0 n) ≡ true) (ek : k ≡ length (below j (entries_at w s 0 n)))
-      (eu : u ≡ length (below (j + 1) (entries_at w s 0 n)))
+  module _ (j k u : ℕ) (h : rising 0 false (listed r) ≡ true) (ek : k ≡ length (below j (listed r)))
+      (eu : u ≡ length (below (j + 1) (listed r)))
       (hk : k ≤ n) (hu : u ≤ n) where
     abbrev es : List Entry
-    es = entries_at w s 0 n
+    es = listed r
 
     -- the entries written anew are those the code copies and puts
-    pub replace_is : (new : List Entry) → replace j new es ≡ rewritten w s n k u new
+    pub replace_is : (new : List Entry) → replace j new es ≡ rewritten r k u new
     unfolding replace rewritten
     replace_is new =
         ap₂ (λ (x y : List Entry). x ++ (new ++ y)) (below-take j 0 false es h ∙ ap (λ (m : ℕ). take m es) (sym ek) ∙ take-entries k hk)
         (above-drop j 0 false es h ∙ ap (λ (m : ℕ). drop m es) (sym eu) ∙ drop-entries u hu)
 
-    pub current_is : find 0 j es ≡ cond (ltb k u) (some (entry_at s (place_after w s k 0)).cp) none
-    current_is = find-current j es h ∙ ap₂ (λ (a b : ℕ). shown_at 0 a b es) (sym ek) (sym eu) ∙ by (dec_lt k u)
+    -- and those of the junction stand by their numbers
+    by-number : (i : ℕ) → shown_at i k u es ≡ cond (ltb (k + i) u) (some (cp_number r (k + i))) none
+    by-number i =
+        let z : i + k ≡ k + i = omega arith in
+        ap (λ (m : ℕ). cond (ltb m u) (some (get_or es m no_entry).cp) none) z ∙ by (dec_lt (k + i) u)
       where
-        by : Dec (k < u) → shown_at 0 k u es ≡ cond (ltb k u) (some (entry_at s (place_after w s k 0)).cp) none
-        by (yes l) =
-            let z : 0 + k ≡ k = omega arith in
-            ap (λ (m : ℕ). cond (ltb m u) (some (get_or es m no_entry).cp) none) z
-            ∙ ap (λ (e : Entry). cond (ltb k u) (some e.cp) none) (entry-number w s n 0 k (omega arith))
+        by : Dec (k + i < u)
+            → cond (ltb (k + i) u) (some (get_or es (k + i) no_entry).cp) none ≡ cond (ltb (k + i) u) (some (cp_number r (k + i))) none
+        by (yes l) = ap (λ (e : Entry). cond (ltb (k + i) u) (some e.cp) none) (entry-number w s n r.from (k + i) (omega arith))
         by (no l) =
-            let f : ltb k u ≡ false = le-ltb k u (omega arith) in
-            let f' : ltb (0 + k) u ≡ false = le-ltb (0 + k) u (omega arith) in
-            ap (λ (b : Bool). cond b (some (get_or es (0 + k) no_entry).cp) none) f'
-            ∙ sym (ap (λ (b : Bool). cond b (some (entry_at s (place_after w s k 0)).cp) none) f)
+            let f : ltb (k + i) u ≡ false = le-ltb (k + i) u (omega arith) in
+            ap (λ (b : Bool). cond b (some (get_or es (k + i) no_entry).cp) none) f
+            ∙ sym (ap (λ (b : Bool). cond b (some (cp_number r (k + i))) none) f)
 
-    pub previous_is : find 1 j es ≡ cond (ltb (k + 1) u) (some (entry_at s (place_after w s (k + 1) 0)).cp) none
-    previous_is = find-previous j es h ∙ ap₂ (λ (a b : ℕ). shown_at 1 a b es) (sym ek) (sym eu) ∙ by (dec_lt (k + 1) u)
-      where
-        by : Dec (k + 1 < u) → shown_at 1 k u es ≡ cond (ltb (k + 1) u) (some (entry_at s (place_after w s (k + 1) 0)).cp) none
-        by (yes l) =
-            let z : 1 + k ≡ k + 1 = omega arith in
-            ap (λ (m : ℕ). cond (ltb m u) (some (get_or es m no_entry).cp) none) z
-            ∙ ap (λ (e : Entry). cond (ltb (k + 1) u) (some e.cp) none) (entry-number w s n 0 (k + 1) (omega arith))
-        by (no l) =
-            let f : ltb (k + 1) u ≡ false = le-ltb (k + 1) u (omega arith) in
-            let f' : ltb (1 + k) u ≡ false = le-ltb (1 + k) u (omega arith) in
-            ap (λ (b : Bool). cond b (some (get_or es (1 + k) no_entry).cp) none) f'
-            ∙ sym (ap (λ (b : Bool). cond b (some (entry_at s (place_after w s (k + 1) 0)).cp) none) f)
+    pub current_is : find 0 j es ≡ cond (ltb (k + 0) u) (some (cp_number r (k + 0))) none
+    current_is = find-current j es h ∙ ap₂ (λ (a b : ℕ). shown_at 0 a b es) (sym ek) (sym eu) ∙ by-number 0
 
--- the entries of a junction as code holds them
-pub own_is : (j : ℕ) (c : List ℕ) (o : Option (List ℕ)) (has : Bool) (x y : List ℕ) → o ≡ cond has (some x) none → (has ≡ true → y ≡ x)
-    → pair j (some c) o ≡ own_entries j c has y
-unfolding given
-own_is j c o true x y e h = ap (pair j (some c)) (e ∙ ap some (sym (h refl)))
-own_is j c o false x y e h = ap (pair j (some c)) e
-
-pub there_is : (o : Option (List ℕ)) (has : Bool) (x : List ℕ) → o ≡ cond has (some x) none → there o ≡ has
-there_is o true x e = ap there e
-there_is o false x e = ap there e
+    pub previous_is : find 1 j es ≡ cond (ltb (k + 1) u) (some (cp_number r (k + 1))) none
+    previous_is = find-previous j es h ∙ ap₂ (λ (a b : ℕ). shown_at 1 a b es) (sym ek) (sym eu) ∙ by-number 1

@@ -7,166 +7,119 @@ mod saving;
 mod sentences;
 mod table;
 
-ghost use Rattle.std.specs.Prelude.{◌≡◌, ◌≤◌, length, take};
-ghost use Rattle.standard.specs.Bits.{bytes_for};
-
-pub use asked::{Asked, asked_in};
-use console::{Ends, Filled, fail, tell_name, write};
-use saving::{is_missing, save};
-use sentences::{change_of, refuse, refuse_change, say_changed};
-use standard::{FileWritten, Record};
+pub use asked::{Asked, Command, asked_in};
+use console::{Ends, Failure};
+use sentences::say_changed;
+use standard::Record;
+use words::Text;
 
 // The most bytes that are read of a settings file and written to one; a file that keeps the rules has fewer.
 const MOST_BYTES: usize = 131072;
 
-// Makes a settings file with no junction, where no file has this name, and says so.
-fn make(e: Ends<'_>, name: &[u8], two: bool) -> bool {
-    let file = versions::empty_file(two);
-    let bytes = file.bytes;
-    is_missing(e, name)
-        && save(e, name, front(&bytes, file.length))
-        && tell_name(e, b"@ made, with no junction", name)
-}
-
 // The first n bytes; all of them where there are no more.
-fn front(bytes: &[u8], n: usize) -> &[u8]
-    ensures { result.now ≡ take n bytes.now }
-{
-    if bytes.len() < n {
-        return bytes;
+fn front(bytes: &[u8], n: usize) -> &[u8] {
+    &bytes[0..n.min(bytes.len())]
+}
+
+// What is changed for a junction: a CP is put as its setting, or its two settings are exchanged.
+#[derive(Clone, Copy)]
+enum Change {
+    Put(Record),
+    Back,
+}
+
+// A settings file: its name, and what the program reads, writes and says things on.
+#[derive(Clone, Copy)]
+struct NamedFile<'a> {
+    e: Ends<'a>,
+    name: &'a [u8],
+}
+
+impl NamedFile<'_> {
+    // Makes the file with no junction, where there is none of this name, and says so.
+    // `two` is handed on to `empty_file`, whose clauses have the flag.
+    fn make(self, two: bool) -> Result<(), Failure> {
+        self.is_missing()?;
+        self.save(versions::empty_file(two))?;
+        self.e.tell_name(b"@ made, with no junction", self.name);
+        Ok(())
     }
-    &bytes[0..n]
-}
 
-// Saves a settings file that is changed for a junction, and says what the change is.
-fn keep(e: Ends<'_>, name: &[u8], file: &[u8], changed: &[u8], junction: u16, back: bool) -> bool {
-    let before = settings::look_up(file, junction);
-    let after = settings::look_up(changed, junction);
-    let outcome = before.outcome;
-    let change = change_of(codes::code_of(outcome) == 0, back);
-    save(e, name, changed) && say_changed(e, junction, change, after.record, before.record)
-}
-
-// Saves what a put or a going back made of a settings file, or says what it is refused for.
-fn finish(
-    e: Ends<'_>,
-    name: &[u8],
-    file: &[u8],
-    out: &[u8],
-    made: FileWritten,
-    junction: u16,
-    back: bool,
-) -> bool {
-    let outcome = made.outcome;
-    let code = codes::code_of(outcome);
-    if code != 0 {
-        return refuse_change(e, name, junction, code, back);
+    // Saves what the bytes of the file are changed to for a junction, and says what the change is.
+    fn keep(self, bytes: &[u8], changed: &[u8], junction: u16, back: bool) -> Result<(), Failure> {
+        self.save(changed)?;
+        let previous = settings::look_up(bytes, junction).ok();
+        // A file that was written has a setting for the junction.
+        if let Ok(current) = settings::look_up(changed, junction) {
+            say_changed(self.e, junction, back, current, previous);
+        }
+        Ok(())
     }
-    keep(e, name, file, front(out, made.length), junction, back)
-}
 
-// Puts a setting for a junction of the settings file with these bytes.
-fn put_in(e: Ends<'_>, name: &[u8], file: &[u8], junction: u16, r: Record) -> bool {
-    let mut out = [0u8; MOST_BYTES];
-    let made = settings::put(file, junction, r, &mut out);
-    finish(e, name, file, &out, made, junction, false)
-}
-
-// Exchanges the two settings of a junction of the settings file with these bytes.
-fn back_in(e: Ends<'_>, name: &[u8], file: &[u8], junction: u16) -> bool {
-    let mut out = [0u8; MOST_BYTES];
-    let made = settings::go_back(file, junction, &mut out);
-    finish(e, name, file, &out, made, junction, true)
-}
-
-// The bytes of so many bits.
-fn bytes_for(bit_count: usize) -> usize
-    ensures { result ≡ bytes_for bit_count }
-{
-    if bit_count % 8 == 0 {
-        return bit_count / 8;
+    // Changes the file, which has these bytes, for a junction; says what that is refused for.
+    fn change(self, bytes: &[u8], junction: u16, change: Change) -> Result<(), Failure> {
+        let mut out = [0u8; MOST_BYTES];
+        let (written, back) = match change {
+            Change::Put(r) => (settings::put(bytes, junction, r, &mut out), false),
+            Change::Back => (settings::go_back(bytes, junction, &mut out), true),
+        };
+        let length = written.map_err(|x| self.refuse_change(junction, x, back))?;
+        self.keep(bytes, front(&out, length), junction, back)
     }
-    bit_count / 8 + 1
+
+    // Shows the current setting of a junction of the file, which has these bytes, as a CP or in plain words.
+    // `as_cp` is a word of the command: both ways need the record and its CP first, so a closure for each would be longer.
+    fn show(self, bytes: &[u8], junction: u16, as_cp: bool) -> Result<(), Failure> {
+        let r = settings::look_up(bytes, junction).map_err(|x| self.refuse(junction, x, false))?;
+        let mut cp = [0u8; 122];
+        // A setting of a file is no CP that is refused.
+        let bit_count = cp::write_cp(r, &mut cp).unwrap_or(0);
+        if as_cp {
+            return self.e.write(front(&cp, bit_count.div_ceil(8)));
+        }
+        write_words(self.e, r, bit_count)
+    }
+
+    // Reads the file and does with its bytes what is to be done; says so where it cannot be read.
+    fn with_bytes<F: FnOnce(&[u8]) -> Result<(), Failure>>(self, f: F) -> Result<(), Failure>
+        requires { F.IsAlwaysCallable f }
+    {
+        let NamedFile { e, name } = self;
+        // A buffer and a count: the program uses no heap.
+        let mut bytes = [0u8; MOST_BYTES];
+        let count = e.fill_from(name, &mut bytes).map_err(|_| e.fail(
+            b"v91 settings FILE new makes a settings file",
+            &[],
+        ))?;
+        f(&bytes[0..count])
+    }
 }
 
 // Writes what a CP of so many bits says, in plain words.
-fn write_words(e: Ends<'_>, r: Record, bit_count: usize) -> bool {
-    let mut text = [0u8; 8192];
-    let at = description::add_record(&mut text, 0, r, bit_count);
-    write(e, &text[0..at])
+// The pictures of `v91` are written so too, each in a text of its own size: the call handed in as a closure would be as long.
+fn write_words(e: Ends<'_>, r: Record, bit_count: usize) -> Result<(), Failure> {
+    let mut text = Text::<8192>::new();
+    description::add_record(&mut text, r, bit_count);
+    e.write(text.as_slice())
 }
 
-// Writes a setting as a CP, by way of `bytes`, or in plain words.
-fn write_setting(e: Ends<'_>, r: Record, as_cp: bool, bytes: &mut [u8]) -> bool {
-    let written = cp::write_cp(r, bytes);
-    let count = written.bit_count;
-    if as_cp {
-        return write(e, front(bytes, bytes_for(count)));
-    }
-    write_words(e, r, count)
+// Puts a setting for a junction of the settings file of this name; an error where it could not.
+pub fn put(e: Ends<'_>, name: &[u8], junction: u16, r: Record) -> Result<(), Failure> {
+    let file = NamedFile { e, name };
+    file.with_bytes(|bytes| file.change(bytes, junction, Change::Put(r)))
 }
 
-// Shows the current setting of a junction of the settings file with these bytes.
-fn show_in(e: Ends<'_>, name: &[u8], file: &[u8], junction: u16, as_cp: bool) -> bool {
-    let read = settings::look_up(file, junction);
-    let outcome = read.outcome;
-    let code = codes::code_of(outcome);
-    if code != 0 {
-        return refuse(e, name, junction, code, false);
+// Does what is asked of the settings file of this name; an error where it could not.
+pub fn run(e: Ends<'_>, name: &[u8], command: Command) -> Result<(), Failure> {
+    let file = NamedFile { e, name };
+    match command {
+        Command::New { two } => file.make(two),
+        Command::List => file.with_bytes(|bytes| file.list(bytes)),
+        Command::Back(junction) => {
+            file.with_bytes(|bytes| file.change(bytes, junction, Change::Back))
+        }
+        Command::Show { junction, as_cp } => {
+            file.with_bytes(|bytes| file.show(bytes, junction, as_cp))
+        }
     }
-    let mut bytes = [0u8; 122];
-    write_setting(e, read.record, as_cp, &mut bytes)
-}
-
-// Does what is asked of the settings file with these bytes; a put is not among it.
-fn run_in(e: Ends<'_>, name: &[u8], file: &[u8], asked: Asked) -> bool {
-    match asked {
-        Asked::List => table::list(e, name, file),
-        Asked::Back(junction) => back_in(e, name, file, junction),
-        Asked::Show(junction) => show_in(e, name, file, junction, false),
-        Asked::ShowCp(junction) => show_in(e, name, file, junction, true),
-        _ => false,
-    }
-}
-
-// Reads a settings file; says so where it cannot be read.
-fn load(e: Ends<'_>, name: &[u8], bytes: &mut [u8]) -> Filled
-    ensures { result.count ≤ length bytes.new }
-{
-    let got = console::fill_from(e, name, bytes);
-    if got.error != 0 {
-        fail(e, b"v91 settings FILE new makes a settings file", 0);
-    }
-    got
-}
-
-// Puts a setting for a junction of the settings file of this name, and returns whether it could.
-pub fn put(e: Ends<'_>, name: &[u8], junction: u16, r: Record) -> bool {
-    let mut bytes = [0u8; MOST_BYTES];
-    let got = load(e, name, &mut bytes);
-    if got.error != 0 {
-        return false;
-    }
-    let n = got.count;
-    put_in(e, name, &bytes[0..n], junction, r)
-}
-
-// Does what is asked of the settings file of this name but for a put, and returns whether it could.
-pub fn run(e: Ends<'_>, name: &[u8], asked: Asked) -> bool {
-    if let Asked::Nothing = asked {
-        return false;
-    }
-    if let Asked::New = asked {
-        return make(e, name, false);
-    }
-    if let Asked::NewTwo = asked {
-        return make(e, name, true);
-    }
-    let mut bytes = [0u8; MOST_BYTES];
-    let got = load(e, name, &mut bytes);
-    if got.error != 0 {
-        return false;
-    }
-    let n = got.count;
-    run_in(e, name, &bytes[0..n], asked)
 }

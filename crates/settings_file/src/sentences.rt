@@ -1,131 +1,83 @@
 // What is said of a settings file: what a call of it is refused for, and what it changed.
-ghost use Rattle.std.specs.Prelude.{◌≡◌, true, false, ◌≤◌, length};
-
-use crate::saving::fail_as_it_was;
-use console::{Ends, fail_choice, tell_text};
+use crate::NamedFile;
+use console::{Ends, Failure};
 use description::add_rate_words;
-use standard::Record;
-use words::{add_choice, add_numbers};
+use standard::{Record, Refusal};
+use words::Text;
 
-// The choice of `refuse` for a refusal; in a going back 23 is about the previous setting.
-fn sentence_of(code: u32, back: bool) -> usize {
-    if (code == 23) & back {
-        return 2;
+impl NamedFile<'_> {
+    // Says what a call for a junction is refused for; in a going back a setting that is missing is the previous one. `back` picks a sentence and
+    // no step, here and below.
+    pub(crate) fn refuse(self, junction: u16, x: Refusal, back: bool) -> Failure {
+        let NamedFile { e, name } = self;
+        let junction = junction as u64;
+        match x {
+            Refusal::FileBroken => e.fail_name(
+                b"@ is no settings file: it breaks the rules of one, or a CP in it is refused (refusal 22)",
+                name,
+            ),
+            Refusal::SettingMissing if back => e.fail_values(
+                b"@ has no previous setting for junction # (refusal 23)",
+                &[junction],
+                name,
+            ),
+            Refusal::SettingMissing => e.fail_values(
+                b"@ has no setting for junction # (refusal 23)",
+                &[junction],
+                name,
+            ),
+            Refusal::TooManyJunctions => e.fail_values(
+                b"@ has # junctions, the most there can be, so junction # cannot be put (refusal 24)",
+                &[versions::version_two().most as u64, junction],
+                name,
+            ),
+            _ => e.fail_name(b"@ is refused", name),
+        }
     }
-    match code {
-        22 => 0,
-        23 => 1,
-        24 => 3,
-        _ => 4,
+
+    // Says what a put or a going back is refused for, and that the file is not changed.
+    pub(crate) fn refuse_change(self, junction: u16, x: Refusal, back: bool) -> Failure {
+        self.refuse(junction, x, back);
+        self.fail_as_it_was()
     }
 }
 
-// The first number of the sentence for a refusal: the most junctions that there can be, or the junction.
-fn first_of(code: u32, most: usize, junction: u16) -> u64 {
-    if code == 24 {
-        return most as u64;
-    }
-    junction as u64
-}
-
-// Says what a call for a junction is refused for.
-pub(crate) fn refuse(e: Ends<'_>, name: &[u8], junction: u16, code: u32, back: bool) -> bool
-    ensures { result ≡ false }
-{
-    let two = versions::version_two();
-    fail_choice(
-        e,
-        b"@ is no settings file: it breaks the rules of one, or a CP in it is refused (refusal 22)|\
-        @ has no setting for junction # (refusal 23)|\
-        @ has no previous setting for junction # (refusal 23)|\
-        @ has # junctions, the most there can be, so junction # cannot be put (refusal 24)|\
-        @ is refused|",
-        sentence_of(code, back),
-        &[first_of(code, two.most, junction), junction as u64],
-        name,
-    )
-}
-
-// Says what a put or a going back is refused for, and that the file is not changed.
-pub(crate) fn refuse_change(e: Ends<'_>, name: &[u8], junction: u16, code: u32, back: bool) -> bool
-    ensures { result ≡ false }
-{
-    refuse(e, name, junction, code, back) || fail_as_it_was(e, name)
-}
-
-// The changes that `say_changed` tells: a junction's first setting is put, one is put over another, or one is gone back to.
-const FIRST: usize = 0;
-
-const OVER: usize = 1;
-
-const BACK: usize = 2;
-
-// The change that a put, or a going back, makes for a junction that has a setting or has none.
-pub(crate) fn change_of(has: bool, back: bool) -> usize {
-    if back {
-        return BACK;
-    }
-    if has {
-        return OVER;
-    }
-    FIRST
-}
-
-// Adds a setting's rate, and that it is kept.
-fn add_kept(text: &mut [u8], at: usize, previous: Record) -> usize
-    requires { at ≤ length text.old }
-    ensures { result ≤ length text.old }
-{
-    let at = add_rate_words(text, at, previous);
-    add_numbers(text, at, b" kept as the previous setting\n", 0, 0, 0)
-}
-
-// Adds a junction, its current setting's rate, and its previous one's where the current one is not its first.
-fn add_changed(
-    text: &mut [u8],
+// Adds what is changed for a junction: its current setting is put, or gone back to, and the one before it, where it has one, is kept.
+fn add_changed<const N: usize>(
+    text: &mut Text<N>,
     junction: u16,
-    change: usize,
+    back: bool,
     current: Record,
-    previous: Record,
-) -> usize
-    ensures { result ≤ length text.old }
-{
-    let at = add_choice(
-        text,
-        0,
-        b"v91: junction #: |v91: junction #: |v91: junction #: back to |",
-        change,
-        junction as u64,
-        0,
-        0,
+    previous: Option<Record>,
+) {
+    text.add_values(
+        if back {
+            b"v91: junction #: back to "
+        } else {
+            b"v91: junction #: "
+        },
+        &[junction as u64],
     );
-    let at = add_rate_words(text, at, current);
-    let at = add_choice(
-        text,
-        at,
-        b" put, its first setting\n| put, |, |",
-        change,
-        0,
-        0,
-        0,
-    );
-    if change == FIRST {
-        return at;
+    add_rate_words(text, current);
+    match previous {
+        None => text.add_values(b" put, its first setting\n", &[]),
+        Some(previous) => {
+            text.add_values(if back { b", " } else { b" put, " }, &[]);
+            add_rate_words(text, previous);
+            text.add_values(b" kept as the previous setting\n", &[]);
+        }
     }
-    add_kept(text, at, previous)
 }
 
 // Says what is changed for a junction, whose settings are these then.
 pub(crate) fn say_changed(
     e: Ends<'_>,
     junction: u16,
-    change: usize,
+    back: bool,
     current: Record,
-    previous: Record,
-) -> bool
-    ensures { result ≡ true }
-{
-    let mut text = [0u8; 256];
-    let at = add_changed(&mut text, junction, change, current, previous);
-    tell_text(e, &text, at)
+    previous: Option<Record>,
+) {
+    let mut text = Text::<256>::new();
+    add_changed(&mut text, junction, back, current, previous);
+    e.tell_text(text.as_slice());
 }

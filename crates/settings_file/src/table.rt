@@ -1,161 +1,94 @@
 // The table of a settings file: a line for each junction, by rising number.
-ghost use Rattle.std.specs.Prelude.{◌≤◌, length};
-
-use crate::sentences::refuse;
-use console::{Ends, tell, write};
+use crate::NamedFile;
+use console::{Ends, Failure};
 use description::{add_rate_words, points_in};
-use standard::Record;
-use words::{add_choice, add_left, add_numbers, add_right};
+use standard::{Record, Refusal};
+use words::Text;
 
-// A junction: its current setting, and its previous one where one is kept; and where the next junction begins. None is found at the end.
+// A junction: its current setting, and its previous one where one is kept; and where the next junction begins.
 #[derive(Clone, Copy)]
 struct Row {
-    found: bool,
     junction: u16,
     current: Record,
-    kept: bool,
-    previous: Record,
+    previous: Option<Record>,
     next: usize,
 }
 
-// The junction whose entries begin at a place of the file.
-fn row_at(file: &[u8], at: usize) -> Row {
-    let own = listing::entry_at(file, at);
-    let second = listing::entry_at(file, own.next);
-    let kept = second.found & second.previous;
-    let current = own.record;
-    let previous = second.record;
-    let mut next = own.next;
-    if kept {
-        next = second.next;
-    }
-    Row {
-        found: own.found,
+// The junction whose entries begin at a place of the file; none at the end.
+fn row_at(file: &[u8], at: usize) -> Option<Row> {
+    let own = listing::entry_at(file, at)?;
+    let row = Row {
         junction: own.junction,
-        current,
-        kept,
-        previous,
-        next,
+        current: own.record,
+        previous: None,
+        next: own.next,
+    };
+    match listing::entry_at(file, own.next) {
+        Some(second) if second.previous => Some(Row {
+            previous: Some(second.record),
+            next: second.next,
+            ..row
+        }),
+        _ => Some(row),
     }
 }
 
-// Adds a rate at the left of its column.
-fn add_rate(text: &mut [u8], at: usize, r: Record) -> usize
-    requires { at ≤ length text.old }
-    ensures { result ≤ length text.old }
-{
-    let mut rate = [0u8; 32];
-    let n = add_rate_words(&mut rate, 0, r);
-    add_left(text, at, 13, &rate[0..n])
-}
-
-// Adds M0 to M5.
-fn add_sizes(text: &mut [u8], at: usize, r: Record) -> usize
-    requires { at ≤ length text.old }
-    ensures { result ≤ length text.old }
-{
-    let index = r.index;
-    let mut end = at;
-    let mut i = 0;
-    while i < 6 {
-        end = add_right(text, end, 5, points_in(r, index[i]));
-        i += 1;
+// Adds the line of a junction: its rate at the left of the column, M0 to M5, and the rate of the previous setting where there is one.
+fn add_row<const N: usize>(text: &mut Text<N>, row: Row) {
+    let r = row.current;
+    let mut rate = Text::<32>::new();
+    add_rate_words(&mut rate, r);
+    text.add_right(8, row.junction as u64);
+    text.add_values(b"  ", &[]);
+    text.add_left(13, rate.as_slice());
+    for m in r.index {
+        text.add_right(5, points_in(r, m));
     }
-    end
-}
-
-// Adds the rate of the previous setting where there is one, and ends the line.
-fn add_previous(text: &mut [u8], at: usize, kept: bool, previous: Record) -> usize
-    requires { at ≤ length text.old }
-    ensures { result ≤ length text.old }
-{
-    let at = add_choice(text, at, b"  none\n|  |", kept as usize, 0, 0, 0);
-    if !kept {
-        return at;
+    match row.previous {
+        None => text.add_values(b"  none\n", &[]),
+        Some(previous) => {
+            text.add_values(b"  ", &[]);
+            add_rate_words(text, previous);
+            text.add_values(b"\n", &[]);
+        }
     }
-    let at = add_rate_words(text, at, previous);
-    add_numbers(text, at, b"\n", 0, 0, 0)
-}
-
-// Adds the line of a junction.
-fn add_row(text: &mut [u8], row: Row) -> usize
-    ensures { result ≤ length text.old }
-{
-    let at = add_right(text, 0, 8, row.junction as u64);
-    let at = add_numbers(text, at, b"  ", 0, 0, 0);
-    let at = add_rate(text, at, row.current);
-    let at = add_sizes(text, at, row.current);
-    add_previous(text, at, row.kept, row.previous)
 }
 
 // Writes the line of a junction.
-fn write_row(e: Ends<'_>, row: Row) -> bool {
-    let mut text = [0u8; 128];
-    let at = add_row(&mut text, row);
-    write(e, &text[0..at])
+fn write_row(e: Ends<'_>, row: Row) -> Result<(), Failure> {
+    let mut text = Text::<128>::new();
+    add_row(&mut text, row);
+    e.write(text.as_slice())
 }
 
-// How many junctions were listed, how many of them with a previous setting, and whether all could be.
-#[derive(Clone, Copy)]
-struct Listed {
-    rows: usize,
-    kept: usize,
-    well: bool,
-}
-
-// Writes the lines of all junctions.
-fn write_rows(e: Ends<'_>, file: &[u8]) -> Listed
-    ensures { (result.kept ≤ result.rows) × (result.rows ≤ length file.now) }
-{
-    let mut rows = 0;
+// Writes the lines of all junctions, and answers how many there are and how many of them have a previous setting. A file has no more
+// junctions than bytes.
+fn write_rows(e: Ends<'_>, file: &[u8]) -> Result<(usize, usize), Failure> {
     let mut kept = 0;
     let mut at = 0;
-    while rows < file.len() {
-        let row = row_at(file, at);
-        if !row.found {
-            return Listed {
-                rows,
-                kept,
-                well: true,
-            };
-        }
-        if !write_row(e, row) {
-            return Listed {
-                rows,
-                kept,
-                well: false,
-            };
-        }
-        if row.kept {
-            kept += 1;
-        }
-        rows += 1;
+    for rows in 0..file.len() {
+        let Some(row) = row_at(file, at) else {
+            return Ok((rows, kept));
+        };
+        write_row(e, row)?;
+        kept += row.previous.is_some() as usize;
         at = row.next;
     }
-    Listed {
-        rows,
-        kept,
-        well: true,
-    }
+    Ok((file.len(), kept))
 }
 
-// Writes the table of the settings file with these bytes, and says how many junctions it has.
-pub(crate) fn list(e: Ends<'_>, name: &[u8], file: &[u8]) -> bool {
-    if !rules::is_file(file) {
-        return refuse(e, name, 0, 22, false);
-    }
-    if !write(
-        e,
-        b"junction  rate            M0   M1   M2   M3   M4   M5  previous\n",
-    ) {
-        return false;
-    }
-    let listed = write_rows(e, file);
-    listed.well
-        && tell(
-            e,
+impl NamedFile<'_> {
+    // Writes the table of the file, which has these bytes, and says how many junctions it has.
+    pub(crate) fn list(self, bytes: &[u8]) -> Result<(), Failure> {
+        if !rules::is_file(bytes) {
+            return Err(self.refuse(0, Refusal::FileBroken, false));
+        }
+        self.e.write(b"junction  rate            M0   M1   M2   M3   M4   M5  previous\n")?;
+        let (rows, kept) = write_rows(self.e, bytes)?;
+        self.e.tell(
             b"# junction~, # with a previous setting",
-            listed.rows as u64,
-            listed.kept as u64,
-        )
+            &[rows as u64, kept as u64],
+        );
+        Ok(())
+    }
 }

@@ -1,6 +1,6 @@
 -- Document 01, 'When the codec declines', and document 02, A.1, A.2, A.3, A.8 and A.10: the tests 1 to 19 and 25 to 28, each under a name,
 -- and the lists of them in the papers' order. 22 asks the CP reader's tests, so 22 to 24 stand in Settings. Assumes nothing.
-use Rattle.std.specs.Prelude.{ℕ, ◌+◌, ◌*◌, ◌-◌, ◌^◌, Bool, not, ◌&&◌, ◌||◌, List, [], ◌∷◌, ◌++◌, eqb, leb, ltb, length}
+use Rattle.std.specs.Prelude.{ℕ, ◌+◌, ◌*◌, ◌-◌, ◌^◌, Bool, not, ◌&&◌, ◌||◌, List, [], ◌∷◌, ◌++◌, eqb, leb, ltb, length, Result, Ok, Err}
 use Rattle.standard.specs.Lists.{list_from, any}
 use Rattle.standard.specs.First.{Answer, bare, valued, Test, test, valued_test}
 use Rattle.standard.specs.Bits.{positive, bit_at}
@@ -11,8 +11,6 @@ use Rattle.standard.specs.Modulus.{product}
 use Rattle.standard.specs.Plan.{points_for, sum_of, lowest_mask}
 use Rattle.standard.specs.declared.Law.{Law}
 use Rattle.standard.specs.declared.LineState.{LineState}
-use Rattle.standard.specs.declared.Outcome.{Outcome}
-use Rattle.standard.specs.declared.Outcome.TheVariants.{Done, Refused}
 use Rattle.standard.specs.declared.Record.{Record}
 use Rattle.standard.specs.declared.Refusal.{Refusal}
 use Rattle.standard.specs.declared.Refusal.TheVariants.{CountExceedsBytes, CountTooSmall, SyncBroken, IndexTooLarge, LengthWrong}
@@ -52,9 +50,9 @@ refusal_answer NoMask = bare 27
 refusal_answer SumExceedsCeiling = bare 28
 
 -- the answer of an outcome: 0 where nothing is refused
-abbrev pub outcome_answer : Outcome → Answer
-outcome_answer Done = bare 0
-outcome_answer (Refused x) = refusal_answer x
+abbrev pub outcome_answer : {X : Type 0} → Result X Refusal → Answer
+outcome_answer (Ok x) = bare 0
+outcome_answer (Err x) = refusal_answer x
 
 -- ---- the tests. s is the bytes of a CP, f its bits, n a bit count
 

@@ -62,28 +62,9 @@ pub enum Refusal {
     SumExceedsCeiling,
 }
 
-#[derive(Clone, Copy)]
-pub enum Outcome {
-    Done,
-    Refused(Refusal),
-}
-
-// The answer of the CP reader. The record is all zero where the outcome is a refusal.
-#[derive(Clone, Copy)]
-pub struct CpRead {
-    pub outcome: Outcome,
-    pub record: Record,
-}
-
-// The answer of the CP writer. The bit count is 0 where the outcome is a refusal.
-#[derive(Clone, Copy)]
-pub struct CpWritten {
-    pub outcome: Outcome,
-    pub bit_count: usize,
-}
-
 // What the receiver says of the control sequence that ends in a call: its bits 16, 17 and 24 to 77, or why they are not to be had; nothing
 // where none ends.
+// It is no Option of a Result: the definitions of what is heard, `receive_says` and `judged`, and theorems of `theorems` are over it.
 #[derive(Clone, Copy)]
 pub enum Said {
     Nothing,
@@ -93,40 +74,9 @@ pub enum Said {
     CrcWrong,
 }
 
-// The answer of the frame sender, with the line state left.
-#[derive(Clone, Copy)]
-pub struct FramesDone {
-    pub outcome: Outcome,
-    pub state: LineState,
-}
-
-// The answer of the frame receiver, with the line state left.
-#[derive(Clone, Copy)]
-pub struct FramesRead {
-    pub outcome: Outcome,
-    pub state: LineState,
-    pub said: Said,
-}
-
-// The answer of the sender of a CP and E_s, with the line state left. The octet count is 0 where the outcome is a refusal.
-#[derive(Clone, Copy)]
-pub struct CpSent {
-    pub outcome: Outcome,
-    pub octet_count: usize,
-    pub state: LineState,
-}
-
-// The line state found from octets.
-#[derive(Clone, Copy)]
-pub struct StateFound {
-    pub outcome: Outcome,
-    pub state: LineState,
-}
-
-// The answer of the planner: M, the mask's halves and its sum of squared linear values. They are 0 where the outcome is a refusal.
+// A planned mask: M, the mask's halves and its sum of squared linear values.
 #[derive(Clone, Copy)]
 pub struct Planned {
-    pub outcome: Outcome,
     pub points: u32,
     pub mask: [u64; 2],
     pub sum: u64,
@@ -139,11 +89,4 @@ pub struct Version {
     pub count: usize,
     pub most: usize,
     pub byte: u8,
-}
-
-// The answer of a put and of a going back: the length of the file written. It is 0 where the outcome is a refusal.
-#[derive(Clone, Copy)]
-pub struct FileWritten {
-    pub outcome: Outcome,
-    pub length: usize,
 }

@@ -5,20 +5,19 @@ use mathlib.Core.Bool.{Bool}
 use mathlib.Core.List.{List, ◌++◌}
 use native.Mathlib.Omega.{arith}
 use borrow.Author.Tests.{lt-ltb, le-ltb, ltb-false, leb-false}
-use lib.ListN.{length, take, drop, length-drop}
-use lib.Seq.{take_all}
+use lib.ListN.{length, drop}
 use Rattle.standard.specs.Lists.{list_from, last_of}
 use Rattle.standard.specs.Bits.{bit_at, bits_in}
 use Rattle.standard.specs.First.{bare, first}
 use Rattle.standard.specs.Record.{top_index}
 use Rattle.standard.specs.Cp.{cp_length, cp_byte_count, cp_bit, cp_bytes}
 use Rattle.standard.specs.Start.{with_line, end_of_cp, cp_and_end, octets_for, left_by, found_history, found_sign, found_in}
-use Rattle.standard.specs.Refusals.{outcome_answer, history_too_large, shorter, record_tests, state_tests, send_cp_tests}
+use Rattle.standard.specs.Refusals.{refusal_answer, history_too_large, shorter, record_tests, state_tests, send_cp_tests}
 use Rattle.standard.specs.Calls.{cp_call, send_cp_refusal, send_cp_count, send_cp_octets, send_cp_left, find_refusal, find_left}
 use Rattle.standard.specs.declared.Law.{Law}
 use Rattle.standard.specs.declared.LineState.{LineState}
-use Rattle.standard.specs.declared.Outcome.{Outcome}
-use Rattle.standard.specs.declared.Outcome.TheVariants.{Done, Refused}
+use Rattle.std.specs.Array.{IsWholeChunk}
+use Rattle.std.specs.Prelude.{Result, Ok, Err}
 use Rattle.standard.specs.declared.Record.{Record}
 use Rattle.standard.specs.declared.Refusal.{Refusal}
 use Rattle.standard.proofs.Lists.{list_from_ext}
@@ -40,23 +39,29 @@ module _ (r : Record) (l : Law) (st : LineState) (os : List ℕ) where
       (ap₂ (λ (s : List ℕ) (k : ℕ). list_from (bit_at (s ++ later)) 0 k) ec (en ∙ ap (λ (k : ℕ). cp_length k) eg)
       ∙ list_from_ext _ (cp_bit r) (cp_length (top_index r)) (λ k h. bit_at-bytes (cp_byte_count (top_index r)) (cp_bit r) later k (omega arith)))
 
-  pub cp-refused : (o : Outcome) (x : Refusal) → o ≡ Refused x → outcome_answer o ≡ send_cp_refusal st (cp_call r l os)
-      → (0 ≡ send_cp_count st (cp_call r l os)) × (st ≡ send_cp_left st (cp_call r l os)) × (os ≡ send_cp_octets st (cp_call r l os))
-  unfolding send_cp_count send_cp_left send_cp_octets
-  cp-refused o x q e = rw (refused_not o x _ q e) (refl, refl, refl)
+  pub cp-refused : (x : Refusal) → refusal_answer x ≡ send_cp_refusal st (cp_call r l os)
+      → (st ≡ send_cp_left st (cp_call r l os)) × (os ≡ send_cp_octets st (cp_call r l os))
+  unfolding send_cp_left send_cp_octets
+  cp-refused x e = let o : Result (Unit {0}) Refusal = Err x in rw (refused_not o x _ refl e) (refl, refl)
 
-  pub cp-done : bare 0 ≡ send_cp_refusal st (cp_call r l os) → {n m : ℕ} {left : LineState} {part : List ℕ} → n ≡ length (cp_and_end r)
-      → m ≡ length (cp_and_end r) → left ≡ left_by st (cp_and_end r) → part ≡ octets_for l st (cp_and_end r)
-      → (n ≡ send_cp_count st (cp_call r l os)) × (left ≡ send_cp_left st (cp_call r l os)) × (part ++ drop m os ≡ send_cp_octets st (cp_call r l os))
-  unfolding send_cp_count send_cp_left send_cp_octets
-  cp-done e en em el ep =
-      rw (← e)
-      (en, el, ap₂ (λ (a : List ℕ) (k : ℕ). a ++ drop k os) ep (em ∙ sym (length-octets_for l st (cp_and_end r))))
+  module _ (e : bare 0 ≡ send_cp_refusal st (cp_call r l os)) where
+    pub cp-counted : {n : ℕ} → n ≡ length (cp_and_end r) → n ≡ send_cp_count st (cp_call r l os)
+    unfolding send_cp_count
+    cp-counted k = rw (← e) k
+
+    pub cp-left : {left : LineState} → left ≡ left_by st (cp_and_end r) → left ≡ send_cp_left st (cp_call r l os)
+    unfolding send_cp_left
+    cp-left k = rw (← e) k
+
+    pub cp-sent : {n : ℕ} {part : List ℕ} → n ≡ length (cp_and_end r) → part ≡ octets_for l st (cp_and_end r)
+        → part ++ drop n os ≡ send_cp_octets st (cp_call r l os)
+    unfolding send_cp_octets
+    cp-sent en ep = rw (← e) (ap₂ (λ (a : List ℕ) (k : ℕ). a ++ drop k os) ep (en ∙ sym (length-octets_for l st (cp_and_end r))))
 
   -- what an accepted call has passed
-  module _ (o : Outcome) (q : o ≡ Done) (e : outcome_answer o ≡ first (send_cp_tests r st (shorter os (length (cp_and_end r))))) where
+  module _ (e : bare 0 ≡ first (send_cp_tests r st (shorter os (length (cp_and_end r))))) where
     none : None (send_cp_tests r st (shorter os (length (cp_and_end r))))
-    none = done_none o _ (send_cp_numbered r st (shorter os (length (cp_and_end r)))) q e
+    none = let o : Result (Unit {0}) Refusal = Ok tt in done_none o _ (send_cp_numbered r st (shorter os (length (cp_and_end r)))) refl e
 
     pub top-passed : top_index r < 6
     unfolding send_cp_tests record_tests
@@ -82,7 +87,7 @@ module _ (st : LineState) (os : List ℕ) where
   unfolding find_refusal find_left found_in first
   find-done h e = rw (le-ltb (length os) 24 h, e) (refl, refl)
 
--- the part from place n on
-pub part-last : {X : Type 0} (os : List X) → take (length os - (length os - 24)) (drop (length os - 24) os) ≡ last_of 24 os
+-- the last 24 as they are found
+pub last-found : (xs : List ℕ) {part : List ℕ} → IsWholeChunk (drop (length xs - 24) xs) part 24 → part ≡ last_of 24 xs
 unfolding last_of
-part-last os = take_all (length os - (length os - 24)) (drop (length os - 24) os) (omega (arith, length-drop (length os - 24) os))
+last-found xs h = h.same

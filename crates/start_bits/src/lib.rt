@@ -35,19 +35,16 @@ fn push(history: u32, bit: bool) -> u32
 fn with_line(state: LineState, history: u32, sign: bool) -> LineState
     ensures { result ≡ with_line state history sign }
 {
-    let sequence = state.sequence;
     LineState {
         history,
         sign,
-        doubtful: state.doubtful,
-        place: state.place,
-        done: state.done,
-        sequence,
-        lost: state.lost,
+        ..state
     }
 }
 
 // Sends the first `count` bits of a CP and then E_s, an octet for each, and answers the line state left.
+// A history below 2^23 is a clause and no type: a `LineState` comes from callers unchecked, and one above is refused with 14.
+// A count beside the bytes: it counts bits, which no slice does.
 pub fn send_bits(
     law: Law,
     state: LineState,
@@ -61,14 +58,12 @@ pub fn send_bits(
 {
     let mut history = state.history;
     let mut sign = state.sign;
-    let mut n = 0;
-    while n < octets.len() {
+    for (n, octet) in octets.iter_mut().enumerate() {
         let bit = (n < count) & bits::bit_at(cp, n);
         let scrambled = bit ^ taps_of(history);
         history = push(history, scrambled);
         sign = scrambled ^ sign;
-        octets[n] = octet_of(law, sign, UCODE);
-        n += 1;
+        *octet = octet_of(law, sign, UCODE);
     }
     with_line(state, history, sign)
 }
@@ -80,12 +75,10 @@ pub fn found_in(octets: &[u8], state: LineState) -> LineState
 {
     let mut history = 0;
     let mut sign = sign_of(octets[0]);
-    let mut k = 1;
-    while k < FOUND_FROM {
+    for k in 1..FOUND_FROM {
         let next = sign_of(octets[k]);
         history = push(history, next ^ sign);
         sign = next;
-        k += 1;
     }
     with_line(state, history, sign)
 }

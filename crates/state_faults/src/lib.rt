@@ -5,20 +5,20 @@ ghost use Rattle.std.specs.Prelude.{◌≡◌};
 ghost use Rattle.standard.specs.First.{first};
 ghost use Rattle.standard.specs.Refusals.{outcome_answer, state_tests};
 
-use standard::{LineState, Outcome, Refusal};
+use standard::{LineState, Refusal};
 
 // Refusals 14, 18 and 19.
-pub fn state_fault(state: LineState) -> Outcome
+pub fn state_fault(state: LineState) -> Result<(), Refusal>
     ensures { outcome_answer result ≡ first (state_tests state) }
 {
     if 0x80_0000 <= state.history {
-        return Outcome::Refused(Refusal::HistoryTooLarge);
+        return Err(Refusal::HistoryTooLarge);
     }
     if 24 < state.doubtful {
-        return Outcome::Refused(Refusal::DoubtfulTooLarge);
+        return Err(Refusal::DoubtfulTooLarge);
     }
     if (63 < state.place) | (15 < state.done) {
-        return Outcome::Refused(Refusal::PlaceTooLarge);
+        return Err(Refusal::PlaceTooLarge);
     }
-    Outcome::Done
+    Ok(())
 }

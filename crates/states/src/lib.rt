@@ -1,10 +1,10 @@
 // A line state in bytes.
 #![tactic(auto)]
 
-ghost use Rattle.std.specs.Prelude.{◌≡◌, ◌<◌, ◌≤◌, length};
+ghost use Rattle.std.specs.Prelude.{◌≡◌, ◌≤◌, length};
 ghost use Rattle.standard.specs.Lists.{list_from};
 ghost use Rattle.standard.specs.Calls.{over};
-ghost use Rattle.states.specs.StateBytes.{state_length, state_byte, state_bytes, line_bytes, sequence_byte, state_at};
+ghost use Rattle.states.specs.StateBytes.{state_length, state_bytes, line_bytes, sequence_byte, state_at};
 
 use standard::LineState;
 
@@ -15,20 +15,18 @@ pub const STATE_BYTES: usize = 21;
 const LINE_BYTES: usize = 5;
 
 // The sequence's bits, from byte 8 on.
+// `forms` copies six bytes in the same way: one function for both would need a crate below them and be no shorter.
 fn sequence_at(bytes: &[u8]) -> [u8; 12]
     requires { state_length ≤ length bytes.now }
     ensures { result ≡ list_from (sequence_byte bytes.now) 0 12 }
 {
-    let mut sequence = [0u8; 12];
-    let mut i = 0;
-    while i < 12 {
-        sequence[i] = bytes[8 + i];
-        i += 1;
-    }
+    let mut sequence = [0; 12];
+    sequence.copy_from_slice(&bytes[8..20]);
     sequence
 }
 
 // The line state in the first 21 bytes.
+// Bytes are a slice with a clause, here and below: C lends slices of any length, and an array at the front of one would be an Option.
 pub fn state_from(bytes: &[u8]) -> LineState
     requires { state_length ≤ length bytes.now }
     ensures { result ≡ state_at bytes.now }
@@ -44,43 +42,19 @@ pub fn state_from(bytes: &[u8]) -> LineState
     }
 }
 
-// Byte k of a line state.
-fn state_byte(s: LineState, k: usize) -> u8
-    requires { k < state_length }
-    ensures { result ≡ state_byte s k }
+// The bytes of a line state.
+fn bytes_of(s: LineState) -> [u8; STATE_BYTES]
+    ensures { result ≡ state_bytes s }
 {
-    if k < 4 {
-        return ((s.history >> (8 * k)) % 256) as u8;
-    }
-    if k < 5 {
-        return s.sign as u8;
-    }
-    if k < 6 {
-        return s.doubtful;
-    }
-    if k < 7 {
-        return s.place;
-    }
-    if k < 8 {
-        return s.done;
-    }
-    if k < 20 {
-        let sequence = s.sequence;
-        return sequence[k - 8];
-    }
-    s.lost as u8
-}
-
-// Puts the first `count` bytes of a line state; the others stay.
-fn put_state(s: LineState, count: usize, bytes: &mut [u8])
-    requires { (count ≤ state_length) × (count ≤ length bytes.old) }
-    ensures { bytes.new ≡ over (list_from (state_byte s) 0 count) bytes.old }
-{
-    let mut k = 0;
-    while k < count {
-        bytes[k] = state_byte(s, k);
-        k += 1;
-    }
+    let mut bytes = [0; STATE_BYTES];
+    bytes[..4].copy_from_slice(&s.history.to_le_bytes());
+    bytes[4] = s.sign as u8;
+    bytes[5] = s.doubtful;
+    bytes[6] = s.place;
+    bytes[7] = s.done;
+    bytes[8..20].copy_from_slice(&s.sequence);
+    bytes[20] = s.lost as u8;
+    bytes
 }
 
 // Puts a line state into the first 21 bytes; the others stay.
@@ -88,7 +62,7 @@ pub fn state_into(s: LineState, bytes: &mut [u8])
     requires { state_length ≤ length bytes.old }
     ensures { bytes.new ≡ over (state_bytes s) bytes.old }
 {
-    put_state(s, STATE_BYTES, bytes);
+    bytes[..STATE_BYTES].copy_from_slice(&bytes_of(s));
 }
 
 // Puts the history and the last sign of a line state into the first 5 bytes; the others stay.
@@ -96,5 +70,5 @@ pub fn line_into(s: LineState, bytes: &mut [u8])
     requires { state_length ≤ length bytes.old }
     ensures { bytes.new ≡ over (line_bytes s) bytes.old }
 {
-    put_state(s, LINE_BYTES, bytes);
+    bytes[..LINE_BYTES].copy_from_slice(&bytes_of(s)[..LINE_BYTES]);
 }

@@ -107,19 +107,18 @@ rest-filled f n left next exact m l k e t =
 
 -- the first n frames are cut, and so many bits are left
 pub record Cutting (f : ℕ → ℕ) (bits left n : ℕ) : Type 0 where
-  pub many : n ≤ 1024
   pub all : f n + left ≡ bits
 
 pub cutting_none : (r : Record) (on : Bool) (p bits : ℕ) → Cutting (call_bits r on p) bits bits 0
 unfolding data_bits
-cutting_none r on p bits = record { many = omega arith; all = omega arith }
+cutting_none r on p bits = record { all = omega arith }
 
 -- frame n is cut, where there are enough bits
 pub cutting_more : (r : Record) (on : Bool) (p : ℕ) {bits left n : ℕ} (w : ℕ) → p < 64 → Cutting (call_bits r on p) bits left n
-    → w ≡ width r (is_control on ((p + n) % 64)) → n < 1024 → w ≤ left → Cutting (call_bits r on p) bits (left - w) (n + 1)
-cutting_more r on p {bits} {left} {n} w h c e m l =
+    → w ≡ width r (is_control on ((p + n) % 64)) → w ≤ left → Cutting (call_bits r on p) bits (left - w) (n + 1)
+cutting_more r on p {bits} {left} {n} w h c e l =
     let next : call_bits r on p (n + 1) ≡ call_bits r on p n + w = call_bits-next r on p n h ∙ rw (sym e) in
-    record { many = omega arith; all = omega (arith, c.all) }
+    record { all = omega (arith, c.all) }
 
 -- or the rest of the cut is made
 pub cutting_ends : (r : Record) (on : Bool) (p : ℕ) {bits left n : ℕ} {exact : Bool} {x : Cut} (w : ℕ) → p < 64
@@ -129,21 +128,19 @@ cutting_ends r on p {bits} {left} {n} w h c e k =
     rw (sym c.all) (k (call_bits r on p) (call_bits-next r on p n h ∙ rw (sym e)))
 
 -- all frames that a call may have are cut, and no bit is left
-pub cut_all : (r : Record) (on : Bool) (p bits left n : ℕ) (exact : Bool) → p < 64 → bits ≤ call_bits r on p 1024 → 1024 ≤ n
-    → Cutting (call_bits r on p) bits left n → CutInto (call_bits r on p) bits exact (record { frames = n; left = left; padding = 0 })
-cut_all r on p bits left n exact h b l c =
-    let e : n ≡ 1024 = omega (arith, c.many) in
-    let all : call_bits r on p 1024 + left ≡ bits = rw e at c.all in
+pub cut_all : (r : Record) (on : Bool) (p bits left : ℕ) (exact : Bool) → p < 64 → bits ≤ call_bits r on p 1024
+    → Cutting (call_bits r on p) bits left 1024 → CutInto (call_bits r on p) bits exact (record { frames = 1024; left = left; padding = 0 })
+cut_all r on p bits left exact h b c =
     let next = call_bits-next r on p 1024 h in
     let wide = width-least r (is_control on ((p + 1024) % 64)) in
-    rw e (record {
+    record {
       many = omega arith;
-      all = omega arith;
-      less = λ x. omega arith;
+      all = omega (arith, c.all);
+      less = λ x. omega (arith, c.all);
       few = λ x. absurd (omega arith);
       whole = λ x. refl;
-      none = λ x. omega arith;
-      left-most = omega arith;
-      left-few = omega arith;
+      none = λ x. omega (arith, c.all);
+      left-most = omega (arith, c.all);
+      left-few = omega (arith, c.all);
       padding_few = omega arith;
-    })
+    }

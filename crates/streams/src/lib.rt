@@ -38,6 +38,7 @@ pub fn cold_state() -> LineState
 
 // The data bits of frame i of those that begin at a frame place: D, and K in a control frame. It stays a call: LLVM's vectors of the loop of
 // `cut_into` run past its early end.
+// `drn ≤ 28` and `place < 64` are clauses, here and below: what is public may ask no more, and `Record` and `LineState` hold any number.
 #[inline(never)]
 pub fn width_at(r: Record, control: bool, place: u8, i: usize) -> usize
     requires { (r.drn ≤ 28) × (i ≤ 1024) }
@@ -49,16 +50,14 @@ pub fn width_at(r: Record, control: bool, place: u8, i: usize) -> usize
     constellation::d_of(r)
 }
 
-// The data bits of so many frames, from a frame place on.
+// The data bits of so many frames, from a frame place on. Its callers hold a record and a line state, and no struct of the two would be kept.
 pub fn bits_in(r: Record, control: bool, place: u8, frames: usize) -> usize
     requires { (r.drn ≤ 28) × (place < 64) × (frames ≤ 1024) }
     ensures { (result ≡ call_bits r control place frames) × (14 * frames ≤ result) × (result ≤ 48 * frames) }
 {
     let mut bits = 0;
-    let mut i = 0;
-    while i < frames {
+    for i in 0..frames {
         bits += width_at(r, control, place, i);
-        i += 1;
     }
     bits
 }
@@ -91,22 +90,21 @@ fn cut_rest(frames: usize, left: usize, next: usize, exact: bool) -> Cut
 }
 
 // Cuts so many bits of data into frames, from a frame place on; whole frames alone, or a last one that is filled with zero bits.
+// `exact` is a flag, as the definition `CutInto` takes it.
 pub fn cut_into(r: Record, control: bool, place: u8, bits: usize, exact: bool) -> Cut
     requires { (r.drn ≤ 28) × (place < 64) × (bits ≤ call_bits r control place 1024) }
     ensures { CutInto (call_bits r control place) bits exact result }
 {
     let mut left = bits;
-    let mut frames = 0;
-    while frames < 1024 {
+    for frames in 0..1024 {
         let next = width_at(r, control, place, frames);
         if left < next {
             return cut_rest(frames, left, next, exact);
         }
         left -= next;
-        frames += 1;
     }
     Cut {
-        frames,
+        frames: 1024,
         left,
         padding: 0,
     }
@@ -131,7 +129,7 @@ pub struct Sequences {
 pub fn sequences_in(frames: u64) -> Sequences
     ensures { (16 * result.whole + result.more ≡ (frames + 63) / 64) × (result.more < 16) }
 {
-    let control = frames / 64 + (frames % 64 + 63) / 64;
+    let control = frames.div_ceil(64);
     Sequences {
         whole: control / 16,
         more: control % 16,

@@ -11,10 +11,8 @@ pub fn put_digits(word: u64, digits: &mut [u8])
     requires { length digits.old ≤ 54 }
     ensures { digits.new ≡ digits_of word (length digits.old) }
 {
-    let mut i = 0;
-    while i < digits.len() {
-        digits[i] = b'0' + bits::bit_of(word, i + 2) as u8;
-        i += 1;
+    for (i, digit) in digits.iter_mut().enumerate() {
+        *digit = b'0' + bits::bit_of(word, i + 2) as u8;
     }
 }
 
@@ -24,10 +22,8 @@ pub fn number_of(digits: &[u8]) -> u64
     ensures { result ≡ number_of (map odd digits.now) }
 {
     let mut number = 0;
-    let mut i = digits.len();
-    while i > 0 {
-        i -= 1;
-        number = 2 * number + bits::wide(digits[i]) % 2;
+    for i in (0..digits.len()).rev() {
+        number = 2 * number + u64::from(digits[i]) % 2;
     }
     number
 }
@@ -45,10 +41,8 @@ pub fn copy_bits(bytes: &[u8], at: usize, out: &mut [u8])
     requires { (at ≤ 2 ^ 16) × (length out.old ≤ 2 ^ 16) }
     ensures { out.new ≡ bytes_of (length out.old) (later at (bit_at bytes.now)) }
 {
-    let mut i = 0;
-    while i < out.len() {
-        out[i] = byte_at(bytes, at + 8 * i);
-        i += 1;
+    for (i, byte) in out.iter_mut().enumerate() {
+        *byte = byte_at(bytes, at + 8 * i);
     }
 }
 
@@ -58,10 +52,8 @@ pub fn differing(a: &[u8], b: &[u8], at: usize, count: usize) -> usize
     ensures { result ≡ Later·differing (bit_at a.now) (bit_at b.now) at count }
 {
     let mut differ = 0;
-    let mut i = 0;
-    while i < count {
+    for i in 0..count {
         differ += (bits::bit_at(a, at + i) ^ bits::bit_at(b, at + i)) as usize;
-        i += 1;
     }
     differ
 }

@@ -12,12 +12,12 @@ mod planner;
 mod script;
 mod stream;
 
-use console::{Ends, fail, fail_name, has, standard_ends, tell, write};
+use asked::named;
+use console::{Ends, Failure, standard_ends, take_words};
 
 // Says how the program is used.
-fn help(e: Ends<'_>) -> bool {
-    write(
-        e,
+fn help(e: Ends<'_>) -> Result<(), Failure> {
+    e.write(
         b"v91: the V.91 line codec
   v91 cp FILE                           a CP sequence in plain words
   v91 start CPFILE LAW > octets         the CP and E_s to the line, an octet for each bit, as they come before data
@@ -56,74 +56,112 @@ The last line on standard error is `v91: ok` or `v91: failed`; bin/v91 ends with
     )
 }
 
-// Says that there is no such command.
-fn unknown(e: Ends<'_>, words: &[u8]) -> bool {
-    fail_name(
-        e,
+// The commands but for run, which a file of commands has not.
+#[derive(Clone, Copy)]
+enum Command {
+    Cp,
+    Start,
+    Send,
+    Receive,
+    Linear,
+    Dil,
+    Plan,
+    Flip,
+    Demo,
+    Settings,
+    Help,
+    Version,
+}
+
+const COMMANDS: [(&[u8], Command); 14] = [
+    (b"cp", Command::Cp),
+    (b"start", Command::Start),
+    (b"send", Command::Send),
+    (b"receive", Command::Receive),
+    (b"linear", Command::Linear),
+    (b"dil", Command::Dil),
+    (b"plan", Command::Plan),
+    (b"flip", Command::Flip),
+    (b"demo", Command::Demo),
+    (b"settings", Command::Settings),
+    (b"help", Command::Help),
+    (b"--help", Command::Help),
+    (b"-h", Command::Help),
+    (b"--version", Command::Version),
+];
+
+impl Command {
+    // The fewest and the most words of a command, its own among them.
+    fn word_counts(self) -> (usize, usize) {
+        match self {
+            Command::Cp | Command::Dil | Command::Flip => (2, 2),
+            Command::Start => (3, 3),
+            Command::Send => (3, 10),
+            Command::Receive => (3, 8),
+            Command::Linear => (2, 3),
+            Command::Plan => (5, 6),
+            Command::Demo => (1, 2),
+            Command::Settings => (3, 5),
+            Command::Help | Command::Version => (0, usize::MAX),
+        }
+    }
+}
+
+// Runs the command that the first word names; says so where it names none.
+pub(crate) fn run_command(e: Ends<'_>, words: &[u8]) -> Result<(), Failure> {
+    let word = parts::nth_part(words, 0, 0);
+    let command = named(&COMMANDS, word).ok_or_else(|| e.fail_name(
         b"there is no command @; v91 help says what there are",
-        parts::nth_part(words, 0, 0),
-    )
-}
-
-// The number of the command that the first word names, in the order of `run_command`.
-pub(crate) fn command_of(words: &[u8]) -> usize {
-    let names =
-        b"cp\nstart\nsend\nreceive\nlinear\ndil\nplan\nflip\ndemo\nsettings\nhelp\n--help\n-h\n--version\nrun\n";
-    parts::which(names, b'\n', parts::nth_part(words, 0, 0))
-}
-
-// Runs a command, and returns whether all of it was done.
-pub(crate) fn run_command(e: Ends<'_>, words: &[u8], command: usize) -> bool {
+        word,
+    ))?;
+    let (least, most) = command.word_counts();
+    e.has(words, least, most)?;
     match command {
-        1 => has(e, words, 2, 2) && output::cp(e, words),
-        2 => has(e, words, 3, 3) && begin::start(e, words),
-        3 => has(e, words, 3, 10) && stream::send(e, words),
-        4 => has(e, words, 3, 8) && stream::receive(e, words),
-        5 => has(e, words, 2, 3) && stream::linear(e, words),
-        6 => has(e, words, 2, 2) && output::dil(e, words),
-        7 => has(e, words, 5, 6) && planner::plan(e, words),
-        8 => has(e, words, 2, 2) && output::flip(e, words),
-        9 => has(e, words, 1, 2) && output::demo(e, words),
-        10 => has(e, words, 3, 5) && junctions::settings(e, words),
-        11 => help(e),
-        12 => help(e),
-        13 => help(e),
-        14 => write(e, b"v91 8\n"),
-        _ => unknown(e, words),
+        Command::Cp => output::cp(e, words),
+        Command::Start => begin::start(e, words),
+        Command::Send => stream::send(e, words),
+        Command::Receive => stream::receive(e, words),
+        Command::Linear => stream::linear(e, words),
+        Command::Dil => output::dil(e, words),
+        Command::Plan => planner::plan(e, words),
+        Command::Flip => output::flip(e, words),
+        Command::Demo => output::demo(e, words),
+        Command::Settings => junctions::settings(e, words),
+        Command::Help => help(e),
+        Command::Version => e.write(b"v91 8\n"),
     }
 }
 
 // Runs the command line, or says how the program is used where it has no word.
-fn run_words(e: Ends<'_>, words: &[u8]) -> bool {
-    if words.len() == 0 {
+fn run_words(e: Ends<'_>, words: &[u8]) -> Result<(), Failure> {
+    if words.is_empty() {
         return help(e);
     }
-    let command = command_of(words);
-    if command == 15 {
-        return has(e, words, 2, 2) && script::run(e, words);
+    if parts::nth_part(words, 0, 0).eq_ignore_ascii_case(b"run") {
+        e.has(words, 2, 2)?;
+        return script::run(e, words);
     }
-    run_command(e, words, command)
+    run_command(e, words)
 }
 
 // Runs the command of the command line.
-fn run_all(e: Ends<'_>) -> bool {
-    let mut text = [0u8; 16384];
-    let at = console::take_words(e.rt, &mut text);
-    if 16384 <= at {
-        return fail(
-            e,
+fn run_all(e: Ends<'_>) -> Result<(), Failure> {
+    let words = take_words::<16384>(e.rt);
+    if words.at == 16384 {
+        return Err(e.fail(
             b"the command line is too long; its words have 16,383 bytes at most",
-            0,
-        );
+            &[],
+        ));
     }
-    run_words(e, &text[0..at])
+    run_words(e, words.as_slice())
+}
+
+// Says whether all that was asked is done.
+pub(crate) fn tell_done(e: Ends<'_>, done: Result<(), Failure>) {
+    e.tell(if done.is_ok() { b"ok" } else { b"failed" }, &[]);
 }
 
 fn main(rt: HostRuntime) {
     let e = standard_ends(rt);
-    if run_all(e) {
-        tell(e, b"ok", 0, 0);
-    } else {
-        fail(e, b"failed", 0);
-    }
+    tell_done(e, run_all(e));
 }

@@ -42,6 +42,7 @@ pub extern "C" fn v91_read_cp(cp: &[u8], bit_count: usize, rec: &mut [u8]) -> u3
 
 // Sends frames of data bits as octets, from the line state and to the one left. `sequence` is for a control sequence that starts in the
 // call.
+// The parameters of each function are those that C hands in.
 #[unsafe(no_mangle)]
 pub extern "C" fn v91_send(
     rec: &[u8],
@@ -94,11 +95,11 @@ pub extern "C" fn v91_receive(
 pub extern "C" fn v91_send_dil(a_law: bool, octets: &mut [u8]) -> u32
     ensures { v91_send_dil a_law octets.old ≡ record { answer = result; octets = octets.new } }
 {
-    let refusal = codes::code_of(dil::send_dil(law_of(a_law), octets));
-    if refusal != 0 {
-        return refusal;
+    let sent = dil::send_dil(law_of(a_law), octets);
+    match sent {
+        Ok(()) => DIL_OCTETS as u32,
+        Err(_) => codes::code_of(sent),
     }
-    DIL_OCTETS as u32
 }
 
 // Sends a record's CP and E_s as octets, from the line state and to the one left, and answers how many octets they have.
@@ -124,15 +125,13 @@ pub extern "C" fn v91_plan(k: u32, a_law: bool, spacing: u32, ceiling: u64, byte
     ensures { v91_plan k a_law spacing ceiling bytes.old ≡ record { answer = result; bytes = bytes.new } }
 {
     let planned = plan::plan(k, law_of(a_law), spacing, ceiling);
-    let outcome = planned.outcome;
-    let refusal = codes::code_of(outcome);
-    if refusal != 0 {
-        return refusal;
-    }
+    let Ok(mask) = planned else {
+        return codes::code_of(planned);
+    };
     if bytes.len() < PLAN_BYTES {
         return OUTPUT_TOO_SHORT;
     }
-    forms::plan_into(planned, bytes);
+    forms::plan_into(mask, bytes);
     0
 }
 

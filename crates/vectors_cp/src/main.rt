@@ -7,18 +7,19 @@
 ghost use Rattle.std.specs.Prelude.{◌≡◌, ◌≤◌, length};
 
 use cases::put_refusal;
-use text::calls;
+use text::{read_bytes, write_bytes};
 
-// Answers a call of the reader: bit count and CP.
+// Answers a call of the reader: bit count and CP. Where it is refused, zeros stand for the record.
 fn answer_read(call: &[u8], reply: &mut [u8]) -> usize
     requires { (8 ≤ length call.now) × (107 ≤ length reply.old) }
     ensures { result ≡ 107 }
 {
-    let read = cp::read_cp(&call[8..], bits::field_at(call, 0, 64) as usize);
-    let outcome = read.outcome;
-    let r = read.record;
-    put_refusal(outcome, reply);
-    forms::record_into(r, &mut reply[2..]);
+    let read = cp::read_cp(&call[8..], bits::word_at(call, 0) as usize);
+    put_refusal(read, reply);
+    match read {
+        Ok(r) => forms::record_into(r, &mut reply[2..]),
+        Err(_) => reply[2..107].fill(0),
+    }
     107
 }
 
@@ -27,15 +28,15 @@ fn answer_write(call: &[u8], reply: &mut [u8]) -> usize
     requires { 105 ≤ length call.now }
     ensures { result ≤ length reply.old }
 {
-    let end = call.len() - 101;
+    let (rec, buffer) = call.split_at(105);
+    let end = 4 + buffer.len();
     if reply.len() < end {
         return 0;
     }
-    reply[4..end].copy_from_slice(&call[105..call.len()]);
-    let written = cp::write_cp(forms::record_from(call), &mut reply[4..end]);
-    let outcome = written.outcome;
-    put_refusal(outcome, reply);
-    bits::put_field(reply, 16, 16, written.bit_count as u64);
+    reply[4..end].copy_from_slice(buffer);
+    let written = cp::write_cp(forms::record_from(rec), &mut reply[4..end]);
+    put_refusal(written, reply);
+    bits::put_field(reply, 16, 16, written.unwrap_or(0) as u64);
     end
 }
 
@@ -47,23 +48,26 @@ fn answer_call(call: &[u8], reply: &mut [u8]) -> usize
     if call.len() < 9 {
         return 0;
     }
-    if call[0] == 0 {
-        return answer_read(&call[1..], reply);
+    match call[0] {
+        0 => answer_read(&call[1..], reply),
+        _ if 106 <= call.len() => answer_write(&call[1..], reply),
+        _ => 0,
     }
-    if call.len() < 106 {
-        return 0;
-    }
-    answer_write(&call[1..], reply)
 }
 
-// Answers call after call.
+// Answers call after call. The loop stands in each of these programs: over a closure it would still need the three buffers, and clauses on
+// what the closure asks of the reply and how much of it is made.
 fn main() {
-    let mut bytes = [0u8; 512];
-    let mut reply = [0u8; 512];
-    let mut call = calls::first(&mut bytes);
-    while call.left > 0 {
-        let n = call.length;
+    let mut bytes = [0; 512];
+    let mut reply = [0; 512];
+    let mut text = [0; 1024];
+    for _ in 0..u64::MAX {
+        let Some(n) = read_bytes(&mut text, &mut bytes) else {
+            return;
+        };
         let made = answer_call(&bytes[0..n], &mut reply);
-        call = calls::next(call, &reply[0..made], &mut bytes);
+        if !write_bytes(&reply[0..made], &mut text) {
+            return;
+        }
     }
 }

@@ -3,87 +3,66 @@
 // the call byte i of the buffer is i modulo 251.
 #![tactic(auto)]
 
+use cases::name_of;
 use dil::SEGMENTS;
-use io::{print_decimal, print_hex, write_all};
 use standard::Law;
-
-// The line of a training symbol.
-fn print_symbol(place: usize, table: u8, generated: u8) {
-    write_all(1, b"symbol ");
-    print_decimal(1, place as u64);
-    write_all(1, b" ");
-    print_decimal(1, table as u64);
-    write_all(1, b" ");
-    print_decimal(1, generated as u64);
-    write_all(1, b"\n");
-}
+use std::io;
 
 // The lines of the training symbols.
-fn print_symbols() {
-    let mut place = 0;
-    while place < SEGMENTS {
-        print_symbol(
-            place,
-            dil::training_symbol(place),
-            dil::generated_symbol(place),
-        );
-        place += 1;
+fn print_symbols(rt: &impl Print) -> io::Result<()> {
+    for place in 0..SEGMENTS {
+        let table = dil::training_symbol(place);
+        let generated = dil::generated_symbol(place);
+        println!(rt; "symbol {place} {table} {generated}")?;
     }
+    Ok(())
 }
 
 // What a buffer holds before a call.
 fn fill(octets: &mut [u8]) {
-    let mut i = 0;
-    while i < octets.len() {
-        octets[i] = (i % 251) as u8;
-        i += 1;
+    for (i, octet) in octets.iter_mut().enumerate() {
+        *octet = (i % 251) as u8;
     }
 }
 
-// An octet, and the line's end where it is the last.
-fn print_octet(octet: u8, last: bool) {
-    print_hex(1, octet as u64, 2);
-    if last {
-        write_all(1, b"\n");
+// A line of octets.
+fn print_line(rt: &impl Print, octets: &[u8]) -> io::Result<()> {
+    for octet in octets {
+        print!(rt; "{octet:02x}")?;
     }
-}
-
-// A buffer, twelve octets a line.
-fn print_octets(octets: &[u8]) {
-    let mut i = 0;
-    while i < octets.len() {
-        let octet = octets[i];
-        i += 1;
-        print_octet(octet, (i % 12 == 0) | (i == octets.len()));
-    }
+    println!(rt)
 }
 
 // The lines of a call with a buffer.
-fn print_call(law: Law, name: &[u8], octets: &mut [u8]) {
+fn print_call(rt: &impl Print, law: Law, octets: &mut [u8]) -> io::Result<()> {
     fill(octets);
     let refusal = codes::code_of(dil::send_dil(law, octets));
-    write_all(1, name);
-    write_all(1, b" ");
-    print_decimal(1, octets.len() as u64);
-    write_all(1, b" ");
-    print_decimal(1, refusal as u64);
-    write_all(1, b"\n");
-    print_octets(octets);
+    let name = name_of(law);
+    let length = octets.len();
+    println!(rt; "{name} {length} {refusal}")?;
+    for line in octets.chunks(12) {
+        print_line(rt, line)?;
+    }
+    Ok(())
 }
 
 // The calls of a law: no buffer, one that is an octet short, one that fits, and one with an octet to spare.
-fn print_calls(law: Law, name: &[u8]) {
-    let mut short = [0u8; 1499];
-    let mut fitting = [0u8; 1500];
-    let mut long = [0u8; 1501];
-    print_call(law, name, &mut []);
-    print_call(law, name, &mut short);
-    print_call(law, name, &mut fitting);
-    print_call(law, name, &mut long);
+fn print_calls(rt: &impl Print, law: Law) -> io::Result<()> {
+    let mut octets = [0; 1501];
+    for length in [0, 1499, 1500, 1501] {
+        print_call(rt, law, &mut octets[0..length])?;
+    }
+    Ok(())
 }
 
-fn main() {
-    print_symbols();
-    print_calls(Law::Mu, b"mu");
-    print_calls(Law::A, b"a");
+// All lines.
+fn print_all(rt: &impl Print) -> io::Result<()> {
+    print_symbols(rt)?;
+    print_calls(rt, Law::Mu)?;
+    print_calls(rt, Law::A)
+}
+
+// It ends with status 0 also where what it prints cannot be written.
+fn main(rt: HostRuntime) {
+    let _ = print_all(&rt);
 }

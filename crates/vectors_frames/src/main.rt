@@ -10,11 +10,16 @@
 // `04`, law, length of the samples buffer, octets: by refusal and samples, 4 bytes each in two's complement.
 #![tactic(auto)]
 
-ghost use Rattle.std.specs.Prelude.{◌+◌, ◌*◌, ◌<◌, ◌≤◌, length};
+ghost use Rattle.std.specs.Prelude.{◌*◌, ◌+◌, ◌≤◌, length};
 
 use cases::{fill, law_of, put_refusal, two};
-use standard::{FramesDone, FramesRead, Law, LineState, Outcome, Record};
-use text::calls;
+use standard::{Law, LineState, Record, Refusal, Said};
+use text::{read_bytes, write_bytes};
+
+// The most marks and the most samples that a call of the receiver and one for samples can ask for.
+const MOST_MARKS: usize = 2048;
+
+const MOST_SAMPLES: usize = 512;
 
 // What calls of the sender and of the receiver have in common.
 #[derive(Clone, Copy)]
@@ -30,66 +35,24 @@ struct Setup {
 fn setup_at(call: &[u8]) -> Setup
     requires { 137 ≤ length call.now }
 {
-    let cp = forms::record_from(&call[1..]);
-    let law = law_of(call[106]);
-    let frames = bits::field_at(call, 856, 64) as usize;
-    let state = states::state_from(&call[115..]);
     Setup {
-        cp,
-        law,
-        frames,
-        state,
+        cp: forms::record_from(&call[1..]),
+        law: law_of(call[106]),
+        frames: bits::word_at(call, 107) as usize,
+        state: states::state_from(&call[115..]),
         control: call[136] != 0,
     }
 }
 
 // Puts the refusal and the state left.
-fn put_left(outcome: Outcome, state: LineState, reply: &mut [u8])
+fn put_left<T: Drop>(outcome: Result<T, Refusal>, state: LineState, reply: &mut [u8])
     requires { 23 ≤ length reply.old }
 {
     put_refusal(outcome, reply);
     states::state_into(state, &mut reply[2..]);
 }
 
-// Puts the answer of the sender.
-fn put_done(done: FramesDone, reply: &mut [u8])
-    requires { 23 ≤ length reply.old }
-{
-    let outcome = done.outcome;
-    let state = done.state;
-    put_left(outcome, state, reply);
-}
-
-// Puts the answer of the receiver.
-fn put_read(done: FramesRead, reply: &mut [u8])
-    requires { 31 ≤ length reply.old }
-{
-    let outcome = done.outcome;
-    let state = done.state;
-    let said = done.said;
-    put_left(outcome, state, reply);
-    forms::heard_into(said, &mut reply[23..]);
-}
-
-// Sends into a buffer that is filled first.
-fn send_into(setup: Setup, word: u64, bytes: &[u8], octets: &mut [u8]) -> FramesDone {
-    let cp = setup.cp;
-    let law = setup.law;
-    let state = setup.state;
-    fill(octets, 3, 7);
-    codec::send(
-        cp,
-        law,
-        setup.frames,
-        setup.control,
-        word,
-        state,
-        bytes,
-        octets,
-    )
-}
-
-// Answers a call of the sender; nothing where the call is too short or the reply has no room.
+// Answers a call of the sender, whose octet buffer is filled first; nothing where the call is too short or the reply has no room.
 fn answer_send(call: &[u8], reply: &mut [u8]) -> usize
     requires { 31 ≤ length reply.old }
     ensures { result ≤ length reply.old }
@@ -101,113 +64,103 @@ fn answer_send(call: &[u8], reply: &mut [u8]) -> usize
     if reply.len() < end {
         return 0;
     }
-    let word = bits::field_at(call, 1096, 64);
-    let done = send_into(setup_at(call), word, &call[147..], &mut reply[23..end]);
-    put_done(done, reply);
+    let Setup {
+        cp,
+        law,
+        frames,
+        mut state,
+        control,
+    } = setup_at(call);
+    let word = bits::word_at(call, 137);
+    let octets = &mut reply[23..end];
+    fill(octets, 3, 7);
+    let sent = codec::send(
+        cp,
+        law,
+        frames,
+        control,
+        word,
+        &mut state,
+        &call[147..],
+        octets,
+    );
+    put_left(sent, state, reply);
     end
 }
 
-// Receives into buffers that are filled first.
-fn receive_into(setup: Setup, octets: &[u8], bytes: &mut [u8], marks: &mut [u8]) -> FramesRead {
-    let cp = setup.cp;
-    let law = setup.law;
-    let state = setup.state;
-    fill(bytes, 1, 5);
-    fill(marks, 2, 3);
-    codec::receive(
-        cp,
-        law,
-        setup.frames,
-        setup.control,
-        state,
-        octets,
-        bytes,
-        marks,
-    )
-}
-
-// Answers a call of the receiver, by way of `marks`; nothing where the call is too short or there is no room.
-fn answer_receive(call: &[u8], reply: &mut [u8], marks: &mut [u8]) -> usize
+// Answers a call of the receiver, whose buffers are filled first; nothing where the call is too short or there is no room.
+fn answer_receive(call: &[u8], reply: &mut [u8]) -> usize
     requires { 31 ≤ length reply.old }
     ensures { result ≤ length reply.old }
 {
     if call.len() < 141 {
         return 0;
     }
-    let end = 31 + two(call[137], call[138]);
+    let bits_end = 31 + two(call[137], call[138]);
     let count = two(call[139], call[140]);
-    if marks.len() < count {
+    let end = bits_end + count;
+    if MOST_MARKS < count || reply.len() < end {
         return 0;
     }
-    let after = end + count;
-    if reply.len() < after {
-        return 0;
-    }
-    let done = receive_into(
-        setup_at(call),
+    let Setup {
+        cp,
+        law,
+        frames,
+        mut state,
+        control,
+    } = setup_at(call);
+    let (bytes, marks) = reply[31..end].split_at_mut(bits_end - 31);
+    fill(bytes, 1, 5);
+    fill(marks, 2, 3);
+    let said = codec::receive(
+        cp,
+        law,
+        frames,
+        control,
+        &mut state,
         &call[141..],
-        &mut reply[31..end],
-        &mut marks[0..count],
+        bytes,
+        marks,
     );
-    put_read(done, reply);
-    reply[end..after].copy_from_slice(&marks[0..count]);
-    after
+    put_left(said, state, reply);
+    forms::heard_into(said.unwrap_or(Said::Nothing), &mut reply[23..]);
+    end
 }
 
 // Fills a buffer: sample i is 1000 * i + 7.
 fn fill_samples(samples: &mut [i32])
     requires { length samples.old ≤ 65536 }
 {
-    let mut i = 0;
-    while i < samples.len() {
-        samples[i] = (1000 * i + 7) as i32;
-        i += 1;
+    for (i, sample) in samples.iter_mut().enumerate() {
+        *sample = (1000 * i + 7) as i32;
     }
 }
 
-// A sample in two's complement.
-fn complement(value: i32) -> u64 {
-    if value < 0 {
-        return 0x1_0000_0000 - text::magnitude(value);
-    }
-    text::magnitude(value)
-}
-
-// Puts samples, four bytes each.
+// Puts samples, four bytes each in two's complement.
 fn put_samples(samples: &[i32], reply: &mut [u8])
-    requires { (4 * length samples.now ≤ length reply.old) × (length samples.now ≤ 65536) }
+    requires { 4 * length samples.now ≤ length reply.old }
 {
-    let mut i = 0;
-    while i < samples.len() {
-        bits::put_field(reply, 32 * i, 32, complement(samples[i]));
-        i += 1;
+    for (i, sample) in samples.iter().enumerate() {
+        reply[4 * i..4 * i + 4].copy_from_slice(&sample.to_le_bytes());
     }
 }
 
-// Puts the refusal and the samples of octets, which go into a buffer that is filled first.
-fn linear_into(law: Law, octets: &[u8], samples: &mut [i32], reply: &mut [u8])
-    requires { (2 + 4 * length samples.old ≤ length reply.old) × (length samples.old ≤ 65536) }
-{
-    fill_samples(samples);
-    let outcome = pcm::linear(law, octets, samples);
-    put_refusal(outcome, reply);
-    put_samples(samples, &mut reply[2..]);
-}
-
-// Answers a call for linear samples, by way of `samples`; nothing where there is no room.
-fn answer_linear(call: &[u8], reply: &mut [u8], samples: &mut [i32]) -> usize
+// Answers a call for linear samples, whose buffer is filled first; nothing where there is no room.
+fn answer_linear(call: &[u8], reply: &mut [u8]) -> usize
     requires { 4 ≤ length call.now }
     ensures { result ≤ length reply.old }
 {
     let count = two(call[2], call[3]);
-    if samples.len() < count {
+    let end = 2 + 4 * count;
+    if MOST_SAMPLES < count || reply.len() < end {
         return 0;
     }
-    if reply.len() < 2 + 4 * count {
-        return 0;
-    }
-    linear_into(law_of(call[1]), &call[4..], &mut samples[0..count], reply);
-    2 + 4 * count
+    let mut buffer = [0; MOST_SAMPLES];
+    let samples = &mut buffer[0..count];
+    fill_samples(samples);
+    put_refusal(pcm::linear(law_of(call[1]), &call[4..], samples), reply);
+    put_samples(samples, &mut reply[2..]);
+    end
 }
 
 // Answers a call of any kind, and returns the reply's length; nothing where the call is too short or of no kind.
@@ -220,26 +173,25 @@ fn answer_call(call: &[u8], reply: &mut [u8]) -> usize
     }
     match call[0] {
         2 => answer_send(call, reply),
-        3 => {
-            let mut marks = [0u8; 2048];
-            answer_receive(call, reply, &mut marks)
-        }
-        4 => {
-            let mut samples = [0i32; 512];
-            answer_linear(call, reply, &mut samples)
-        }
+        3 => answer_receive(call, reply),
+        4 => answer_linear(call, reply),
         _ => 0,
     }
 }
 
-// Answers call after call.
+// Answers call after call. The loop stands in each of these programs: over a closure it would still need the three buffers, and clauses on
+// what the closure asks of the reply and how much of it is made.
 fn main() {
-    let mut bytes = [0u8; 8192];
-    let mut reply = [0u8; 8192];
-    let mut call = calls::first(&mut bytes);
-    while call.left > 0 {
-        let n = call.length;
+    let mut bytes = [0; 8192];
+    let mut reply = [0; 8192];
+    let mut text = [0; 16384];
+    for _ in 0..u64::MAX {
+        let Some(n) = read_bytes(&mut text, &mut bytes) else {
+            return;
+        };
         let made = answer_call(&bytes[0..n], &mut reply);
-        call = calls::next(call, &reply[0..made], &mut bytes);
+        if !write_bytes(&reply[0..made], &mut text) {
+            return;
+        }
     }
 }

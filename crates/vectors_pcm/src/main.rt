@@ -4,54 +4,48 @@
 
 ghost use Rattle.std.specs.Prelude.{◌<◌};
 
-use io::{print_decimal, print_hex, write_all};
+use cases::name_of;
 use standard::Law;
+use std::io;
 use table1::{printed_magnitude, printed_octet};
 
-// A signed number.
-fn print_signed(value: i32) {
-    if value < 0 {
-        write_all(1, b"-");
-    }
-    print_decimal(1, text::magnitude(value));
-}
-
 // The line of a Ucode.
-fn print_row(law: Law, name: &[u8], sign: bool, ucode: u8)
+fn print_row(rt: &impl Print, law: Law, sign: bool, ucode: u8) -> io::Result<()>
     requires { ucode < 128 }
 {
-    let octets = [pcm::octet_of(law, sign, ucode)];
-    let mut samples = [0i32; 1];
-    pcm::linear(law, &octets, &mut samples);
-    write_all(1, name);
-    write_all(1, b" ");
-    print_decimal(1, sign as u64);
-    write_all(1, b" ");
-    print_decimal(1, ucode as u64);
-    write_all(1, b" ");
-    print_hex(1, printed_octet(law, sign, ucode) as u64, 2);
-    write_all(1, b" ");
-    print_hex(1, octets[0] as u64, 2);
-    write_all(1, b" ");
-    print_decimal(1, printed_magnitude(law, ucode) as u64);
-    write_all(1, b" ");
-    print_signed(samples[0]);
-    write_all(1, b"\n");
+    let name = name_of(law);
+    let sign_bit = sign as u8;
+    let table = printed_octet(law, sign, ucode);
+    let octet = pcm::octet_of(law, sign, ucode);
+    let value = printed_magnitude(law, ucode);
+    let mut samples = [0];
+    pcm::linear(law, &[octet], &mut samples).unwrap();
+    let sample = samples[0];
+    println!(rt; "{name} {sign_bit} {ucode} {table:02x} {octet:02x} {value} {sample}")
 }
 
 // The lines of a law and a sign.
-fn print_column(law: Law, name: &[u8], sign: bool) {
-    let mut ucode: u8 = 0;
-    while ucode < 128 {
-        print_row(law, name, sign, ucode);
-        ucode += 1;
+fn print_column(rt: &impl Print, law: Law, sign: bool) -> io::Result<()> {
+    for ucode in 0..128 {
+        print_row(rt, law, sign, ucode)?;
     }
+    Ok(())
 }
 
 // Both laws, each with the positive sign first.
-fn main() {
-    print_column(Law::Mu, b"mu", true);
-    print_column(Law::Mu, b"mu", false);
-    print_column(Law::A, b"a", true);
-    print_column(Law::A, b"a", false);
+fn print_all(rt: &impl Print) -> io::Result<()> {
+    for (law, sign) in [
+        (Law::Mu, true),
+        (Law::Mu, false),
+        (Law::A, true),
+        (Law::A, false),
+    ] {
+        print_column(rt, law, sign)?;
+    }
+    Ok(())
+}
+
+// It ends with status 0 also where what it prints cannot be written.
+fn main(rt: HostRuntime) {
+    let _ = print_all(&rt);
 }

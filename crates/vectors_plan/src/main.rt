@@ -3,95 +3,64 @@
 // ceiling and with one less. The spacings are 0, 1, 16, 100, 600, the largest that is accepted, one more, 65535 and 65536.
 #![tactic(auto)]
 
-ghost use Rattle.std.specs.Prelude.{◌≤◌};
-
-use io::{print_decimal, print_hex, write_all};
+use cases::name_of;
 use standard::{Law, Planned};
+use std::io;
 
-// A number and a space.
-fn print_number(n: u64) {
-    print_decimal(1, n);
-    write_all(1, b" ");
-}
+// What is printed as the plan of a call that is refused.
+const NO_PLAN: Planned = Planned {
+    points: 0,
+    mask: [0, 0],
+    sum: 0,
+};
 
-// The line of a call, and its answer.
-fn print_call(k: u32, law: Law, name: &[u8], spacing: u32, ceiling: u64) -> Planned {
+// The line of a call.
+// K and the law go with `rt`, here and below: a struct of them would be made and taken apart for one call of `plan`.
+fn print_call(rt: &impl Print, k: u32, law: Law, spacing: u32, ceiling: u64) -> io::Result<()> {
+    let name = name_of(law);
     let planned = plan::plan(k, law, spacing, ceiling);
-    let outcome = planned.outcome;
-    let refusal = codes::code_of(outcome);
-    let mask = planned.mask;
-    print_number(k as u64);
-    write_all(1, name);
-    print_number(spacing as u64);
-    print_number(ceiling);
-    print_number(refusal as u64);
-    print_number(planned.points as u64);
-    print_number(planned.sum);
-    print_hex(1, mask[1], 16);
-    print_hex(1, mask[0], 16);
-    write_all(1, b"\n");
-    planned
+    let refusal = codes::code_of(planned);
+    let Planned { points, mask, sum } = planned.unwrap_or(NO_PLAN);
+    let [low, high] = mask;
+    println!(rt; "{k} {name} {spacing} {ceiling} {refusal} {points} {sum} {high:016x}{low:016x}")
 }
 
 // The lines of a spacing.
-fn print_spacing(k: u32, law: Law, name: &[u8], spacing: u32) {
-    let planned = print_call(k, law, name, spacing, u64::MAX);
-    let sum = planned.sum;
-    if sum != 0 {
-        print_call(k, law, name, spacing, sum);
-        print_call(k, law, name, spacing, sum - 1);
+fn print_spacing(rt: &impl Print, k: u32, law: Law, spacing: u32) -> io::Result<()> {
+    print_call(rt, k, law, spacing, u64::MAX)?;
+    if let Ok(planned) = plan::plan(k, law, spacing, u64::MAX) {
+        print_call(rt, k, law, spacing, planned.sum)?;
+        print_call(rt, k, law, spacing, planned.sum.saturating_sub(1))?;
     }
-}
-
-// Spacing i of the nine.
-fn spacing_at(i: usize, largest: u32) -> u32
-    requires { largest ≤ 65535 }
-{
-    match i {
-        0 => 0,
-        1 => 1,
-        2 => 16,
-        3 => 100,
-        4 => 600,
-        5 => largest,
-        6 => largest + 1,
-        7 => 65535,
-        _ => 65536,
-    }
-}
-
-// The lines of the nine spacings.
-fn print_spacings(k: u32, law: Law, name: &[u8], largest: u32)
-    requires { largest ≤ 65535 }
-{
-    let mut i = 0;
-    while i < 9 {
-        print_spacing(k, law, name, spacing_at(i, largest));
-        i += 1;
-    }
+    Ok(())
 }
 
 // The lines of a K.
-fn print_rate(k: u32, law: Law, name: &[u8]) {
+fn print_rate(rt: &impl Print, k: u32, law: Law) -> io::Result<()> {
+    let name = name_of(law);
     let largest = plan::largest_spacing(k, law, u64::MAX);
-    print_number(k as u64);
-    write_all(1, name);
-    write_all(1, b"largest ");
-    print_decimal(1, largest as u64);
-    write_all(1, b"\n");
-    print_spacings(k, law, name, largest);
+    println!(rt; "{k} {name} largest {largest}")?;
+    for spacing in [0, 1, 16, 100, 600, largest, largest + 1, 65535, 65536] {
+        print_spacing(rt, k, law, spacing)?;
+    }
+    Ok(())
 }
 
 // The lines of a law.
-fn print_law(law: Law, name: &[u8]) {
-    let mut k = 14;
-    while k < 44 {
-        print_rate(k, law, name);
-        k += 1;
+fn print_law(rt: &impl Print, law: Law) -> io::Result<()> {
+    for k in 14..44 {
+        print_rate(rt, k, law)?;
     }
+    Ok(())
 }
 
-fn main() {
-    print_law(Law::Mu, b"mu ");
-    print_law(Law::A, b"a ");
+// All lines.
+fn print_all(rt: &impl Print) -> io::Result<()> {
+    print_law(rt, Law::Mu)?;
+    print_law(rt, Law::A)
+}
+
+// It ends with status 0 also where what it prints cannot be written.
+fn main(rt: HostRuntime) {
+    let _ = print_all(&rt);
 }

@@ -9,54 +9,32 @@
 ghost use Rattle.std.specs.Prelude.{◌≤◌, ◌<◌, length};
 
 use cases::{fill, put_refusal, two};
-use standard::FileWritten;
-use text::calls;
+use standard::Refusal;
+use text::{read_bytes, write_bytes};
 
 // The number of three bytes.
 fn three(low: u8, middle: u8, high: u8) -> usize
     ensures { result < 16777216 }
 {
-    two(low, middle) + 65536 * (high as usize)
+    u32::from_le_bytes([low, middle, high, 0]) as usize
 }
 
 // The junction of a call.
 fn junction_of(call: &[u8]) -> u16
     requires { 3 ≤ length call.now }
 {
-    two(call[1], call[2]) as u16
+    u16::from_le_bytes([call[1], call[2]])
 }
 
-// Puts the answer of a put or a going back but for its buffer.
-fn put_written(made: FileWritten, reply: &mut [u8])
+// Puts the answer of a put or a going back but for its buffer; where it is refused, the length is 0.
+fn put_written(written: Result<usize, Refusal>, reply: &mut [u8])
     requires { 107 ≤ length reply.old }
 {
-    let outcome = made.outcome;
-    put_refusal(outcome, reply);
-    bits::put_field(reply, 16, 24, made.length as u64);
+    put_refusal(written, reply);
+    bits::put_field(reply, 16, 24, written.unwrap_or(0) as u64);
 }
 
-// Puts a setting, with a buffer that is filled first.
-fn put_into(call: &[u8], out: &mut [u8]) -> FileWritten
-    requires { 111 ≤ length call.now }
-{
-    fill(out, 3, 7);
-    settings::put(
-        &call[111..],
-        junction_of(call),
-        forms::record_from(&call[3..]),
-        out,
-    )
-}
-
-// Goes back, with a buffer that is filled first.
-fn back_into(call: &[u8], out: &mut [u8]) -> FileWritten
-    requires { 6 ≤ length call.now }
-{
-    fill(out, 3, 7);
-    settings::go_back(&call[6..], junction_of(call), out)
-}
-
-// Answers a put; nothing where the call is too short or the reply has no room.
+// Answers a put, whose buffer is filled first; nothing where the call is too short or the reply has no room.
 fn answer_put(call: &[u8], reply: &mut [u8]) -> usize
     requires { 107 ≤ length reply.old }
     ensures { result ≤ length reply.old }
@@ -68,12 +46,17 @@ fn answer_put(call: &[u8], reply: &mut [u8]) -> usize
     if reply.len() < end {
         return 0;
     }
-    let made = put_into(call, &mut reply[5..end]);
-    put_written(made, reply);
+    let r = forms::record_from(&call[3..]);
+    let out = &mut reply[5..end];
+    fill(out, 3, 7);
+    put_written(
+        settings::put(&call[111..], junction_of(call), r, out),
+        reply,
+    );
     end
 }
 
-// Answers a going back; nothing where the call is too short or the reply has no room.
+// Answers a going back, whose buffer is filled first; nothing where the call is too short or the reply has no room.
 fn answer_back(call: &[u8], reply: &mut [u8]) -> usize
     requires { 107 ≤ length reply.old }
     ensures { result ≤ length reply.old }
@@ -85,12 +68,13 @@ fn answer_back(call: &[u8], reply: &mut [u8]) -> usize
     if reply.len() < end {
         return 0;
     }
-    let made = back_into(call, &mut reply[5..end]);
-    put_written(made, reply);
+    let out = &mut reply[5..end];
+    fill(out, 3, 7);
+    put_written(settings::go_back(&call[6..], junction_of(call), out), reply);
     end
 }
 
-// Answers a look-up; nothing where the call is too short.
+// Answers a look-up; nothing where the call is too short. Where it is refused, zeros stand for the record.
 fn answer_look(call: &[u8], reply: &mut [u8]) -> usize
     requires { 107 ≤ length reply.old }
     ensures { result ≤ length reply.old }
@@ -99,9 +83,11 @@ fn answer_look(call: &[u8], reply: &mut [u8]) -> usize
         return 0;
     }
     let found = settings::look_up(&call[3..], junction_of(call));
-    let outcome = found.outcome;
-    put_refusal(outcome, reply);
-    forms::record_into(found.record, &mut reply[2..]);
+    put_refusal(found, reply);
+    match found {
+        Ok(r) => forms::record_into(r, &mut reply[2..]),
+        Err(_) => reply[2..107].fill(0),
+    }
     107
 }
 
@@ -110,25 +96,27 @@ fn answer_call(call: &[u8], reply: &mut [u8]) -> usize
     requires { 107 ≤ length reply.old }
     ensures { result ≤ length reply.old }
 {
-    if call.len() == 0 {
-        return 0;
-    }
-    match call[0] {
-        8 => answer_put(call, reply),
-        9 => answer_back(call, reply),
-        10 => answer_look(call, reply),
+    match call.first() {
+        Some(8) => answer_put(call, reply),
+        Some(9) => answer_back(call, reply),
+        Some(10) => answer_look(call, reply),
         _ => 0,
     }
 }
 
-// Answers call after call.
+// Answers call after call. The loop stands in each of these programs: over a closure it would still need the three buffers, and clauses on
+// what the closure asks of the reply and how much of it is made.
 fn main() {
-    let mut bytes = [0u8; 131072];
-    let mut reply = [0u8; 131072];
-    let mut call = calls::first(&mut bytes);
-    while call.left > 0 {
-        let n = call.length;
+    let mut bytes = [0; 131072];
+    let mut reply = [0; 131072];
+    let mut text = [0; 262144];
+    for _ in 0..u64::MAX {
+        let Some(n) = read_bytes(&mut text, &mut bytes) else {
+            return;
+        };
         let made = answer_call(&bytes[0..n], &mut reply);
-        call = calls::next(call, &reply[0..made], &mut bytes);
+        if !write_bytes(&reply[0..made], &mut text) {
+            return;
+        }
     }
 }

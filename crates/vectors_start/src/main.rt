@@ -8,34 +8,9 @@
 ghost use Rattle.std.specs.Prelude.{◌≤◌, length};
 
 use cases::{fill, law_of, put_refusal, two};
-use standard::CpSent;
-use text::calls;
+use text::{read_bytes, write_bytes};
 
-// Sends a CP and E_s into a buffer that is filled first.
-fn send_into(call: &[u8], octets: &mut [u8]) -> CpSent
-    requires { 128 ≤ length call.now }
-{
-    fill(octets, 3, 7);
-    start::send_cp(
-        forms::record_from(&call[1..]),
-        law_of(call[106]),
-        states::state_from(&call[107..]),
-        octets,
-    )
-}
-
-// Puts the answer of the sender but for its octets.
-fn put_sent(sent: CpSent, reply: &mut [u8])
-    requires { 25 ≤ length reply.old }
-{
-    let outcome = sent.outcome;
-    let state = sent.state;
-    put_refusal(outcome, reply);
-    bits::put_field(reply, 16, 16, sent.octet_count as u64);
-    states::state_into(state, &mut reply[4..]);
-}
-
-// Answers a call of the sender; nothing where the call is too short or the reply has no room.
+// Answers a call of the sender, whose octet buffer is filled first; nothing where the call is too short or the reply has no room.
 fn answer_send(call: &[u8], reply: &mut [u8]) -> usize
     requires { 25 ≤ length reply.old }
     ensures { result ≤ length reply.old }
@@ -47,8 +22,13 @@ fn answer_send(call: &[u8], reply: &mut [u8]) -> usize
     if reply.len() < end {
         return 0;
     }
-    let sent = send_into(call, &mut reply[25..end]);
-    put_sent(sent, reply);
+    let r = forms::record_from(&call[1..]);
+    let mut state = states::state_from(&call[107..]);
+    fill(&mut reply[25..end], 3, 7);
+    let sent = start::send_cp(r, law_of(call[106]), &mut state, &mut reply[25..end]);
+    put_refusal(sent, reply);
+    bits::put_field(reply, 16, 16, sent.unwrap_or(0) as u64);
+    states::state_into(state, &mut reply[4..]);
     end
 }
 
@@ -60,10 +40,8 @@ fn answer_find(call: &[u8], reply: &mut [u8]) -> usize
     if call.len() < 22 {
         return 0;
     }
-    let found = start::find_state(&call[22..], states::state_from(&call[1..]));
-    let outcome = found.outcome;
-    let state = found.state;
-    put_refusal(outcome, reply);
+    let mut state = states::state_from(&call[1..]);
+    put_refusal(start::find_state(&call[22..], &mut state), reply);
     states::state_into(state, &mut reply[2..]);
     23
 }
@@ -73,24 +51,26 @@ fn answer_call(call: &[u8], reply: &mut [u8]) -> usize
     requires { 25 ≤ length reply.old }
     ensures { result ≤ length reply.old }
 {
-    if call.len() == 0 {
-        return 0;
-    }
-    match call[0] {
-        5 => answer_send(call, reply),
-        6 => answer_find(call, reply),
+    match call.first() {
+        Some(5) => answer_send(call, reply),
+        Some(6) => answer_find(call, reply),
         _ => 0,
     }
 }
 
-// Answers call after call.
+// Answers call after call. The loop stands in each of these programs: over a closure it would still need the three buffers, and clauses on
+// what the closure asks of the reply and how much of it is made.
 fn main() {
-    let mut bytes = [0u8; 2048];
-    let mut reply = [0u8; 2048];
-    let mut call = calls::first(&mut bytes);
-    while call.left > 0 {
-        let n = call.length;
+    let mut bytes = [0; 2048];
+    let mut reply = [0; 2048];
+    let mut text = [0; 4096];
+    for _ in 0..u64::MAX {
+        let Some(n) = read_bytes(&mut text, &mut bytes) else {
+            return;
+        };
         let made = answer_call(&bytes[0..n], &mut reply);
-        call = calls::next(call, &reply[0..made], &mut bytes);
+        if !write_bytes(&reply[0..made], &mut text) {
+            return;
+        }
     }
 }

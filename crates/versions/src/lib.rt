@@ -1,7 +1,7 @@
 // The versions of a settings file: which one a file has, which one it has after a put, and a file of each with no junction.
 #![tactic(auto)]
 
-ghost use Rattle.std.specs.Prelude.{◌≡◌, true, cond, [], ◌++◌, ◌-◌, ◌≤◌, take, replicate};
+ghost use Rattle.std.specs.Prelude.{◌≡◌, true, cond, [], ◌≤◌, length};
 ghost use Rattle.standard.specs.Settings.{version_one, version_two, version_in, version_for, file_of, trailer, is_file};
 
 use standard::Version;
@@ -22,11 +22,8 @@ pub fn version_two() -> Version
 pub fn version_in(file: &[u8]) -> Version
     ensures { (result ≡ version_in file.now) × (result.start ≤ 4) × (result.count ≤ 2) }
 {
-    let n = file.len();
-    if 0 < n {
-        if file[n - 1] == 2 {
-            return version_two();
-        }
+    if file.last() == Some(&2) {
+        return version_two();
     }
     Version {
         start: 2,
@@ -36,7 +33,7 @@ pub fn version_in(file: &[u8]) -> Version
     }
 }
 
-// The version after a put that leaves so many junctions.
+// The version after a put that leaves so many junctions. The bounds stay clauses: the definitions of a file are over `Version` as it is.
 pub fn version_for(v: Version, junctions: usize) -> Version
     requires { (v.start ≤ 4) × (v.count ≤ 2) }
     ensures { (result ≡ version_for v junctions) × (result.start ≤ 4) × (result.count ≤ 2) }
@@ -47,27 +44,16 @@ pub fn version_for(v: Version, junctions: usize) -> Version
     version_two()
 }
 
-// A settings file with no junction: the first `length` of these bytes, and zeros.
-#[derive(Clone, Copy)]
-pub struct Empty {
-    pub bytes: [u8; 7],
-    pub length: usize,
-}
-
 // The settings file with no junction, of version 2 or 1: the number of its entries, the start of the last one, the version.
-pub fn empty_file(two: bool) -> Empty
-    ensures { let v = cond two version_two version_one in
-        (result.length ≡ trailer v) × (result.bytes ≡ file_of v [] ++ replicate (7 - trailer v) 0)
-        × (is_file (take result.length result.bytes) ≡ true) }
+// `two` is a flag, as the clauses have it, which may not change: docs/TRACE.md names the function.
+pub fn empty_file(two: bool) -> &'static [u8]
+    ensures length { length result.now ≡ trailer (cond two version_two version_one) }
+    ensures bytes { result.now ≡ file_of (cond two version_two version_one) [] }
+    ensures is_file { is_file result.now ≡ true }
 {
     if two {
-        return Empty {
-            bytes: [0, 0, 0, 0, 0, 0, 2],
-            length: 7,
-        };
-    }
-    Empty {
-        bytes: [0, 0, 0, 1, 0, 0, 0],
-        length: 4,
+        &[0, 0, 0, 0, 0, 0, 2]
+    } else {
+        &[0, 0, 0, 1]
     }
 }

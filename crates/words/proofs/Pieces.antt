@@ -1,28 +1,13 @@
--- What a message is put together from: characters as they are, characters that are shown, digits. Assumes nothing.
-use mathlib.Core.Path.{◌≡◌, refl, ap, ap₂}
+-- The digits of a number in decimal. Assumes nothing.
+use mathlib.Core.Path.{◌≡◌, ap₂}
 use Prim.Native.Nat.{ℕ, zero, suc, ◌+◌, ◌*◌, ◌-◌, ◌/◌, ◌%◌, ◌^◌, ◌≤◌, ◌<◌}
-use mathlib.Core.Bool.{true, false}
-use mathlib.Core.List.{List, [], ◌∷◌, ◌++◌, map}
+use mathlib.Core.List.{List, [], ◌∷◌, ◌++◌}
 use native.Mathlib.Nat.{not-suc-le-zero, zero-lt-suc, mod-eq_of_lt, pow-succ', one-le-pow}
 use native.Mathlib.Omega.{arith}
 use lib.Dec.{lit<}
 use borrow.Author.Tests.{lt-ltb, le-ltb}
 use Rattle.io.specs.Digits.{hex_digit_ascii, last_digits, IsDigitCount}
-use Rattle.words.specs.Message.{decimal_in, decimal, shown, cleaned, Added}
-
-kept : (xs : List ℕ) → map (cleaned false) xs ≡ xs
-unfolding cleaned
-kept [] = refl
-kept (c ∷ cs) = ap (λ (l : List ℕ). c ∷ l) (kept cs)
-
-pub added_plain : {s : List ℕ} {at : ℕ} {xs ys t : List ℕ} {end : ℕ} → xs ≡ ys → Added s at (map (cleaned false) xs) t end
-    → Added s at ys t end
-added_plain e a = rw (kept, e) at a
-
-pub all_shown : (xs : List ℕ) → map (cleaned true) xs ≡ map shown xs
-unfolding cleaned
-all_shown [] = refl
-all_shown (c ∷ cs) = ap (λ (l : List ℕ). shown c ∷ l) (all_shown cs)
+use Rattle.words.specs.Message.{decimal_in, decimal}
 
 glyph_mod : (n : ℕ) → hex_digit_ascii (n % 10) ≡ 48 + n % 10
 glyph_mod n = let h : n % 10 < 10 = omega arith in rw (lt-ltb (n % 10) 10 h)

@@ -1,5 +1,5 @@
 -- What the program says: a template, in which some characters stand for numbers and for a name. Assumes nothing.
-use Rattle.std.specs.Prelude.{ℕ, zero, suc, ◌+◌, ◌-◌, ◌/◌, ◌%◌, ◌≡◌, Bool, cond, ◌||◌, List, [], ◌∷◌, ◌++◌, map, eqb, ltb, length, get_or, set}
+use Rattle.std.specs.Prelude.{ℕ, zero, suc, ◌+◌, ◌-◌, ◌/◌, ◌%◌, ◌≡◌, cond, ◌||◌, List, [], ◌∷◌, ◌++◌, map, eqb, ltb, length, get_or, set}
 use Rattle.standard.specs.Bits.{weight}
 
 -- the decimal digits of a number below 10 ^ k, the most significant first and no zero before them; '0' is 48
@@ -14,10 +14,6 @@ decimal n = decimal_in 20 n
 -- a character of a name; '?' for a control character
 unfoldable pub shown : ℕ → ℕ
 shown c = cond (ltb c 32 || eqb c 127) 63 c
-
--- a character that is shown so where it is to be cleaned
-unfoldable pub cleaned : Bool → ℕ → ℕ
-cleaned cleans c = cond cleans (shown c) c
 
 -- what a character c of a template stands for, when k numbers are given before it: '#' the next number, '~' an s unless the number before
 -- is 1, '@' the name, and any other itself

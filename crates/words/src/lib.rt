@@ -3,175 +3,144 @@
 
 mod columns;
 
-ghost use Rattle.std.specs.Prelude.{◌≡◌, cond, [], ◌∷◌, map, ◌-◌, ◌≤◌, eqb, length, get_or};
-ghost use Rattle.words.specs.Message.{shown as Message·shown, cleaned as Message·cleaned};
+ghost use Rattle.std.specs.Prelude.{◌≡◌, cond, [], ◌∷◌, map, ◌-◌, ◌≤◌, eqb, get_or, length, take, replicate};
+ghost use Rattle.words.specs.Message.{shown as Message·shown};
 ghost use Rattle.parts.specs.Parts.{part_at};
-ghost use Rattle.words.specs.Message.{decimal, piece, message, added, place_after, Added};
+ghost use Rattle.words.specs.Message.{decimal, piece, message, Added};
 
-pub use columns::{add_left, add_right};
 use parts::nth_part;
 
+// A text of up to N characters, put together piece by piece: `at` is the place behind the last piece. What of a piece has no room is cut off.
+// An array and a place, and no String: the program uses no heap.
+#[derive(Drop)]
+pub struct Text<const N: usize> {
+    pub bytes: [u8; N],
+    pub at: usize,
+    pub ghost whole: { length bytes ≡ N },
+    pub ghost within: { at ≤ N },
+}
+
 // A character of a name; a question mark for a control character.
+#[tactic(auto, unfolding(crate::specs::Message::shown))]
 fn shown(c: u8) -> u8
     ensures { result ≡ Message·shown c }
 {
-    if c < 32 {
-        return 63;
-    }
-    if c == 127 {
-        return 63;
+    if c.is_ascii_control() {
+        return b'?';
     }
     c
-}
-
-// A character, shown so where it is to be cleaned.
-fn cleaned(cleans: bool, c: u8) -> u8
-    ensures { result ≡ Message·cleaned cleans c }
-{
-    if cleans {
-        return shown(c);
-    }
-    c
-}
-
-// Puts characters into the text from place `at` on, as far as there is room, and returns the place after them.
-fn add(text: &mut [u8], at: usize, cleans: bool, words: &[u8]) -> usize
-    ensures { Added text.old at (map (Message·cleaned cleans) words.now) text.new result }
-{
-    let mut end = at;
-    let mut i = 0;
-    while i < words.len() {
-        if text.len() <= end {
-            return end;
-        }
-        text[end] = cleaned(cleans, words[i]);
-        end += 1;
-        i += 1;
-    }
-    end
-}
-
-// Adds a number in decimal.
-fn add_decimal(text: &mut [u8], at: usize, number: u64) -> usize
-    ensures { Added text.old at (decimal number) text.new result }
-{
-    let mut digits = [0u8; 20];
-    let n = io::decimal(number, &mut digits);
-    add(text, at, false, &digits[0..n])
 }
 
 // Number k of those given; 0 past their end.
 fn value_at(values: &[u64], k: usize) -> u64
     ensures { result ≡ get_or values.now k 0 }
 {
-    if k < values.len() {
-        return values[k];
+    values.get(k).copied().unwrap_or(0)
+}
+
+impl<const N: usize> Text<N> {
+    // A text with nothing in it.
+    pub fn new() -> Self
+        ensures place { result.at ≡ 0 }
+        ensures zeros { result.bytes ≡ replicate N 0 }
+    {
+        Text {
+            bytes: [0; N],
+            at: 0,
+        }
     }
-    0
-}
 
-// The number before number k; number 0 where there is none before.
-fn value_before(values: &[u64], k: usize) -> u64
-    ensures { result ≡ get_or values.now (k - 1) 0 }
-{
-    if k == 0 {
-        return value_at(values, 0);
+    // What the text says.
+    pub fn as_slice(&self) -> &[u8]
+        ensures { result.now ≡ take self.now.at self.now.bytes }
+    {
+        // The borrow check takes a part of a slice, and none of an array of N.
+        let whole = &self.bytes[..];
+        &whole[..self.at]
     }
-    value_at(values, k - 1)
-}
 
-// Adds an s, unless there is one of what is named.
-fn add_plural(text: &mut [u8], at: usize, number: u64) -> usize
-    ensures { Added text.old at (cond (eqb number 1) [] (115 ∷ [])) text.new result }
-{
-    if number == 1 {
-        return at;
+    // Adds characters.
+    fn add(&mut self, words: &[u8])
+        ensures { Added self.old.bytes self.old.at words.now self.new.bytes self.new.at }
+    {
+        let count = words.len().min(N - self.at);
+        let room = &mut self.bytes[..];
+        room[self.at..self.at + count].copy_from_slice(&words[..count]);
+        self.at += count;
     }
-    add(text, at, false, b"s")
-}
 
-// Adds what a character of a template stands for, when k numbers are given before it.
-fn add_piece(text: &mut [u8], at: usize, c: u8, values: &[u64], k: usize, name: &[u8]) -> usize
-    ensures { Added text.old at (piece values.now name.now k c) text.new result }
-{
-    if c == b'#' {
-        return add_decimal(text, at, value_at(values, k));
+    // Adds the characters of a name.
+    fn add_shown(&mut self, name: &[u8])
+        ensures { Added self.old.bytes self.old.at (map Message·shown name.now) self.new.bytes self.new.at }
+    {
+        for c in name {
+            self.add(&[shown(*c)]);
+        }
     }
-    if c == b'~' {
-        return add_plural(text, at, value_before(values, k));
+
+    // Adds a number in decimal.
+    fn add_decimal(&mut self, number: u64)
+        ensures { Added self.old.bytes self.old.at (decimal number) self.new.bytes self.new.at }
+    {
+        let mut digits = [0; 20];
+        let n = io::decimal(number, &mut digits);
+        self.add(&digits[..n]);
     }
-    if c == b'@' {
-        return add(text, at, true, name);
+
+    // Adds an s, unless there is one of what is named.
+    fn add_plural(&mut self, number: u64)
+        ensures { Added self.old.bytes self.old.at (cond (eqb number 1) [] (115 ∷ [])) self.new.bytes self.new.at }
+    {
+        if number != 1 {
+            self.add(b"s");
+        }
     }
-    add(text, at, false, &[c])
-}
 
-// Adds what a template says with numbers and a name, from place `at` on and as far as there is room, and returns the place after it.
-pub fn add_message(
-    text: &mut [u8],
-    at: usize,
-    template: &[u8],
-    values: &[u64],
-    name: &[u8],
-) -> usize
-    ensures { (result ≡ place_after (length text.old) at
-        (message template.now values.now name.now))
-        × (text.new ≡ added text.old at
-        (message template.now values.now name.now)) }
-{
-    let mut end = at;
-    let mut k = 0;
-    let mut i = 0;
-    while i < template.len() {
-        let c = template[i];
-        end = add_piece(text, end, c, values, k, name);
-        k += (c == b'#') as usize;
-        i += 1;
+    // Adds what a character of a template stands for, when k numbers are given before it.
+    fn add_piece(&mut self, c: u8, values: &[u64], k: usize, name: &[u8])
+        ensures { Added self.old.bytes self.old.at (piece values.now name.now k c) self.new.bytes self.new.at }
+    {
+        match c {
+            b'#' => self.add_decimal(value_at(values, k)),
+            b'~' => self.add_plural(value_at(values, k.saturating_sub(1))),
+            b'@' => self.add_shown(name),
+            _ => self.add(&[c]),
+        }
     }
-    end
-}
 
-// Adds what a template says with numbers; the place after it is within the text too.
-pub fn add_values(text: &mut [u8], at: usize, template: &[u8], values: &[u64]) -> usize
-    requires { at ≤ length text.old }
-    ensures { Added text.old at (message template.now values.now []) text.new result
-        × (result ≤ length text.old) }
-{
-    add_message(text, at, template, values, b"")
-}
+    // Adds what a template says with numbers and a name.
+    pub fn add_message(&mut self, template: &[u8], values: &[u64], name: &[u8])
+        ensures { Added self.old.bytes self.old.at (message template.now values.now name.now) self.new.bytes
+            self.new.at }
+    {
+        let mut k = 0;
+        for c in template {
+            self.add_piece(*c, values, k, name);
+            k += (*c == b'#') as usize;
+        }
+    }
 
-// The same with three numbers.
-pub fn add_numbers(text: &mut [u8], at: usize, template: &[u8], a: u64, b: u64, c: u64) -> usize
-    requires { at ≤ length text.old }
-    ensures { Added text.old at (message template.now (a ∷ b ∷ c ∷ []) []) text.new result
-        × (result ≤ length text.old) }
-{
-    add_values(text, at, template, &[a, b, c])
-}
+    // Adds what a template says with numbers.
+    pub fn add_values(&mut self, template: &[u8], values: &[u64])
+        ensures { Added self.old.bytes self.old.at (message template.now values.now []) self.new.bytes self.new.at }
+    {
+        self.add_message(template, values, b"");
+    }
 
-// The same with a name and no number.
-pub fn add_name(text: &mut [u8], at: usize, template: &[u8], name: &[u8]) -> usize
-    requires { at ≤ length text.old }
-    ensures { Added text.old at (message template.now (0 ∷ []) name.now) text.new result
-        × (result ≤ length text.old) }
-{
-    add_message(text, at, template, &[0], name)
-}
+    // The same with a name and no number.
+    pub fn add_name(&mut self, template: &[u8], name: &[u8])
+        ensures { Added self.old.bytes self.old.at (message template.now (0 ∷ []) name.now) self.new.bytes
+            self.new.at }
+    {
+        self.add_message(template, &[0], name);
+    }
 
-// Adds what template k of a list says with three numbers; the first is template 0, and a | ends each.
-pub fn add_choice(
-    text: &mut [u8],
-    at: usize,
-    templates: &[u8],
-    k: usize,
-    a: u64,
-    b: u64,
-    c: u64,
-) -> usize
-    requires { at ≤ length text.old }
-    ensures { Added text.old at (message (part_at 124 k templates.now) (a ∷ b ∷ c ∷ []) []) text.new
-        result
-        × (result ≤ length text.old) }
-{
-    add_numbers(text, at, nth_part(templates, b'|', k), a, b, c)
+    // Adds what template k of a list says with numbers; the first is template 0, and a | ends each.
+    // A number for a template, since docs/TRACE.md names the function and its contract is over `part_at`.
+    pub fn add_choice(&mut self, templates: &[u8], k: usize, values: &[u64])
+        ensures { Added self.old.bytes self.old.at (message (part_at 124 k templates.now) values.now []) self.new.bytes
+            self.new.at }
+    {
+        self.add_values(nth_part(templates, b'|', k), values);
+    }
 }

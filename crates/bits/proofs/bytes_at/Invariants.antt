@@ -1,11 +1,8 @@
 -- After j turns the word is the field of the first j bytes. Assumes nothing.
 use mathlib.Core.Path.{◌≡◌}
-use Prim.Native.Nat.{◌*◌, ◌-◌, ◌≤◌}
+use Prim.Native.Nat.{◌*◌}
 use Rattle.standard.specs.Bits.{bit_at, field}
 use Rattle.bits.proofs.bytes_at.Given as goal
 
 abbrev pub invariant-loop-j : goal.invariant-loop-j
-invariant-loop-j l = (l.j ≤ l.k) × (l.word ≡ field (bit_at l.bytes) (8 * l.i) (8 * l.j))
-
-abbrev pub decreases-loop-j : goal.decreases-loop-j
-decreases-loop-j l = l.k - l.j
+invariant-loop-j l = l.word ≡ field (bit_at l.bytes) (8 * l.i) (8 * l.j)

@@ -1,11 +1,8 @@
--- `bits::field_by_bits` meets its contract. The loop's invariant: the value is the field of the `done` highest bits. Assumes nothing.
+-- `bits::field_by_bits` meets its contract. The loop's invariant: the value is the field of the bits from bit i on. Assumes nothing.
 use mathlib.Core.Path.{◌≡◌}
-use Prim.Native.Nat.{◌+◌, ◌-◌, ◌≤◌}
+use Prim.Native.Nat.{◌+◌, ◌-◌}
 use Rattle.standard.specs.Bits.{bit_at, field}
 use Rattle.bits.proofs.field_by_bits.Given as goal
 
-abbrev pub invariant-loop-done : goal.invariant-loop-done
-invariant-loop-done l = (l.done ≤ l.width) × (l.value ≡ field (bit_at l.bytes) (l.at + (l.width - l.done)) l.done)
-
-abbrev pub decreases-loop-done : goal.decreases-loop-done
-decreases-loop-done l = l.width - l.done
+abbrev pub invariant-loop-i : goal.invariant-loop-i
+invariant-loop-i l = l.value ≡ field (bit_at l.bytes) (l.at + l.i) (l.width - l.i)

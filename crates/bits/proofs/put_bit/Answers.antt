@@ -12,5 +12,5 @@ returns c =
     let a = c.args in
     let s = a.bytes.now in
     put_back s _ a.n 8 _ _ 1 a.value (omega arith) (omega arith)
-    (λ j l. ap (λ (x : ℕ). bit x j) c.wide-word.ensures.0 ∙ sym (bit_at_byte s (a.n / 8) j l))
+    (λ j l. ap (λ (x : ℕ). bit x j) c.from-word.ensures ∙ sym (bit_at_byte s (a.n / 8) j l))
     c.word_with.ensures c.put_byte.ensures

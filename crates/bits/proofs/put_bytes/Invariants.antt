@@ -1,12 +1,8 @@
 -- After j turns the first j bytes of the word are put. Assumes nothing.
 use mathlib.Core.Path.{◌≡◌}
-use Prim.Native.Nat.{◌-◌, ◌*◌, ◌≤◌}
-use lib.ListN.{length}
+use Prim.Native.Nat.{◌*◌}
 use Rattle.bits.specs.PutField.{put_field}
 use Rattle.bits.proofs.put_bytes.Given as goal
 
 abbrev pub invariant-loop-j : goal.invariant-loop-j
-invariant-loop-j l = (l.j ≤ l.k) × (length l.bytes ≡ length l.initial.bytes) × (l.bytes ≡ put_field l.initial.bytes (8 * l.i) (8 * l.j) l.word)
-
-abbrev pub decreases-loop-j : goal.decreases-loop-j
-decreases-loop-j l = l.k - l.j
+invariant-loop-j l = l.bytes ≡ put_field l.initial.bytes (8 * l.i) (8 * l.j) l.word

@@ -5,14 +5,14 @@ use Rattle.choosing.proofs.Choosing.{half_begun, bits_small, sum-small, half_mor
 use Rattle.choosing.proofs.choose_half.Goals as goal
 
 pub loop-i-init : goal.loop-i-init
-loop-i-init c = (omega arith, λ M h. h)
+loop-i-init c = λ M h. h
 
 pub look_at-p-requires : goal.look_at-p-requires
 look_at-p-requires c =
     let a = c.args in
     let l = c.loop-i in
     let b = c.requires.2 in
-    let h = l.invariant.1 b.0 (half_begun a.law a.spacing b.0 a.from a.c _ refl refl refl b.1) in (
+    let h = l.invariant b.0 (half_begun a.law a.spacing b.0 a.from a.c _ refl refl refl b.1) in (
       omega arith,
       bits_small a.law a.spacing b.0 a.from l.i l.p h,
       sum-small a.law a.spacing b.0 a.from l.i l.p h (omega arith),
@@ -23,16 +23,14 @@ look_at-p-requires c =
 pub loop-i-preserved : goal.loop-i-preserved
 loop-i-preserved c =
     let a = c.args in
-    let l = c.loop-i in (
-      omega arith,
-      λ M h.
-          half_more a.law a.spacing M a.from l.i l.p (l.invariant.1 M h) _ c.look_at-p.result
-          c.magnitude_of.ensures.0 c.look_at-p.ensures,
-    )
+    let l = c.loop-i in
+    λ M h.
+    half_more a.law a.spacing M a.from l.i l.p (l.invariant M h) _ c.look_at-p.result
+    c.magnitude_of.ensures.0 c.look_at-p.ensures
 
 pub returns : goal.returns
 returns c = λ M b.
     let a = c.args in
     let e : c.loop-i.i ≡ 64 = omega arith in
-    let h = c.loop-i.invariant.1 M (half_begun a.law a.spacing M a.from a.c _ refl refl refl b) in
+    let h = c.loop-i.invariant M (half_begun a.law a.spacing M a.from a.c _ refl refl refl b) in
     (rw e at h.before, rw e at h.bits_are)

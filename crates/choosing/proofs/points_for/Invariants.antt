@@ -1,12 +1,9 @@
 -- The numbers below m are too small: the search goes on from m. Assumes nothing.
 use mathlib.Core.Path.{◌≡◌}
-use Prim.Native.Nat.{◌-◌, ◌^◌, ◌≤◌}
+use Prim.Native.Nat.{◌^◌}
 use Rattle.standard.specs.Plan.{points_for}
 use Rattle.choosing.proofs.Choosing.{search_from}
 use Rattle.choosing.proofs.points_for.Given as goal
 
 abbrev pub invariant-loop-m : goal.invariant-loop-m
-invariant-loop-m l = (l.k ≤ 42) × (l.m ≤ 128) × (l.least ≡ 2 ^ l.k) × (points_for l.k ≡ search_from l.k l.m)
-
-abbrev pub decreases-loop-m : goal.decreases-loop-m
-decreases-loop-m l = 128 - l.m
+invariant-loop-m l = (l.least ≡ 2 ^ l.k) × (points_for l.k ≡ search_from l.k l.m)

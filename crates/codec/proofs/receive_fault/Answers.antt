@@ -1,10 +1,14 @@
 -- The tests before the buffers are looked at, and then those of the buffers. Assumes nothing.
-use Rattle.codec.proofs.Entries.{receive_tests}
+use Rattle.codec.proofs.Entries.{call_refused, receive_tests}
 use Rattle.codec.proofs.receive_fault.Goals as goal
+
+pub returns-in_err-needed : goal.returns-in_err-needed
+returns-in_err-needed c =
+    let a = c.args in
+    call_refused a.r a.state a.frames _ _ c.from_residual.result _ c.from_residual.ensures.1 c.in_err-needed.ensures.refusal
 
 pub returns : goal.returns
 returns c =
     let a = c.args in
-    let d = c.needed_by-needed in
-    receive_tests a.r a.frames a.control a.state a.octets a.bytes a.marks d.result d.ensures
-    c.buffer_fault.result c.buffer_fault.ensures
+    let needed = c.in_ok-needed.ensures in
+    receive_tests a.r a.state a.frames a.control needed.refusal needed.bytes needed.octets a.octets a.bytes a.marks c.buffer_fault.ensures

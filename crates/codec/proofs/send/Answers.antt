@@ -1,32 +1,43 @@
 -- The first refusal, or the frames sent. Assumes nothing.
-use Rattle.codec.proofs.Entries.{send_refused, send_allowed, send_done_lem}
+use mathlib.Core.Path.{◌∙◌}
+use Rattle.needs.proofs.Faults.{handed_on}
+use Rattle.codec.proofs.Entries.{send_tested, send_kept, send_allowed, send-left, send-octets}
 use Rattle.codec.proofs.send.Goals as goal
 
--- a refused call leaves the state
--- and the octets as they were
-pub returns-in-Refused : goal.returns-in-Refused
-returns-in-Refused c =
-    let a = c.args in
-    let d = c.needed_by-needed in
-    let o = c.buffer_fault-fault in
-    send_refused a.r a.law a.frames a.control a.word a.state a.bytes.now a.octets.now d.result d.ensures
-    o.result o.ensures _ c.in-Refused.is c.refused.result c.refused.ensures
+-- a refused call leaves the octets and the state as they were
 
-pub send_frames-left-requires : goal.send_frames-left-requires
-send_frames-left-requires c =
+pub returns-in_err-send_fault-clause-octets : goal.returns-in_err-send_fault-clause-octets
+returns-in_err-send_fault-clause-octets c =
     let a = c.args in
-    let d = c.needed_by-needed in
-    let o = c.buffer_fault-fault in
-    send_allowed a.r a.law a.frames a.control a.word a.state a.bytes.now a.octets.now d.result d.ensures
-    o.result o.ensures
-    c.in_default.is
+    (send_kept a.r a.law a.frames a.control a.word a.state.now a.bytes.now a.octets.now _ c.in_err-send_fault.ensures).1
 
-pub returns : goal.returns
-returns c =
+pub returns-in_err-send_fault-clause-left : goal.returns-in_err-send_fault-clause-left
+returns-in_err-send_fault-clause-left c =
     let a = c.args in
-    let d = c.needed_by-needed in
-    let o = c.buffer_fault-fault in
-    let done = c.send_frames-left in
-    send_done_lem a.r a.law a.frames a.control a.word a.state a.bytes.now a.octets.now d.result d.ensures
-    o.result o.ensures
-    done.result _ c.in_default.is done.ensures.0 done.ensures.1
+    (send_kept a.r a.law a.frames a.control a.word a.state.now a.bytes.now a.octets.now _ c.in_err-send_fault.ensures).0
+
+pub returns-in_err-send_fault-clause-refusal : goal.returns-in_err-send_fault-clause-refusal
+returns-in_err-send_fault-clause-refusal c =
+    let a = c.args in
+    handed_on {X = Unit {0}} c.from_residual.result _ c.from_residual.ensures.1
+    ∙ send_tested a.r a.law a.frames a.control a.word a.state.now a.bytes.now a.octets.now c.in_err-send_fault.ensures
+
+pub send_frames-requires : goal.send_frames-requires
+send_frames-requires c =
+    let a = c.args in
+    send_allowed a.r a.law a.frames a.control a.word a.state.now a.bytes.now a.octets.now c.in_ok-send_fault.ensures
+
+pub returns-clause-refusal : goal.returns-clause-refusal
+returns-clause-refusal c =
+    let a = c.args in
+    send_tested a.r a.law a.frames a.control a.word a.state.now a.bytes.now a.octets.now c.in_ok-send_fault.ensures
+
+pub returns-clause-left : goal.returns-clause-left
+returns-clause-left c =
+    let a = c.args in
+    send-left a.r a.law a.frames a.control a.word a.state.now a.bytes.now a.octets.now c.in_ok-send_fault.ensures _ c.send_frames.ensures.0
+
+pub returns-clause-octets : goal.returns-clause-octets
+returns-clause-octets c =
+    let a = c.args in
+    send-octets a.r a.law a.frames a.control a.word a.state.now a.bytes.now a.octets.now c.in_ok-send_fault.ensures _ c.send_frames.ensures.1

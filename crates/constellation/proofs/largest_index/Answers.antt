@@ -1,28 +1,30 @@
--- Turn i takes the larger of the largest index so far and index i. Assumes nothing.
-use mathlib.Core.Path.{◌≡◌, refl, ap, sym, ◌∙◌}
-use Prim.Native.Nat.{ℕ, ◌-◌, max}
+-- The larger of the largest index so far and the next one, over the six. Assumes nothing.
+use mathlib.Core.Path.{◌≡◌, refl, sym, ap, ◌∙◌}
+use mathlib.Core.List.{List}
+use Prim.Native.Nat.{ℕ, zero, suc, ◌≤◌, ◌<◌, max}
+use native.Mathlib.Numerals.{add-one}
 use native.Mathlib.Omega.{arith}
-use lib.ListN.{get_or}
+use lib.ListN.{length, get_or, take}
+use Rattle.std.proofs.Common.{rules}
+use Rattle.std.proofs.lemmas.List.{take_all}
+use Rattle.std.proofs.lemmas.List.Sums.{fold_more}
+use Rattle.std.specs.List.{fold}
 use Rattle.standard.specs.Lists.{largest}
 use Rattle.standard.specs.Record.{top_index}
-use Rattle.standard.proofs.Lists.{largest-next}
 use Rattle.constellation.proofs.largest_index.Goals as goal
 
-pub loop-i-init : goal.loop-i-init
+largest-front : (xs : List ℕ) (n : ℕ) → n ≤ length xs → fold max 0 (take n xs) ≡ largest (λ k. get_or xs k 0) n
 unfolding largest
-loop-i-init c = (omega arith, refl)
-
-pub loop-i-preserved : goal.loop-i-preserved
-loop-i-preserved c =
-    let l = c.loop-i in
-    let index = c.args.r.index in (
-      omega arith,
-      c.larger-g.ensures ∙ ap (λ (g : ℕ). max g (get_or index l.i 0)) l.invariant.1
-          ∙ sym (largest-next (λ k. get_or index k 0) l.i),
-    )
+largest-front xs zero h = refl
+largest-front xs (suc n) h =
+    let l : n < length xs = omega arith in
+    ap (λ (k : ℕ). fold max 0 (take k xs)) (sym (add-one n)) ∙ fold_more max 0 xs n 0 l
+    ∙ ap (λ (g : ℕ). max g (get_or xs n 0)) (largest-front xs n (omega arith))
 
 pub returns : goal.returns
 unfolding top_index
 returns c =
-    let e : c.loop-i.i ≡ 6 = omega arith in
-    c.loop-i.invariant.1 ∙ ap (largest (λ k. get_or c.args.r.index k 0)) e
+    let xs = c.args.r.index in
+    let six : length xs ≡ 6 = omega arith in
+    let run : c.fold.result ≡ fold max 0 xs = search rules in
+    run ∙ ap (fold max 0) (sym (take_all 6 xs (omega arith))) ∙ largest-front xs 6 (omega arith)

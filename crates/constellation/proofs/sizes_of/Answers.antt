@@ -1,6 +1,6 @@
 -- Turn i fills in the size of interval i. Assumes nothing.
 use mathlib.Core.Path.{◌≡◌, refl, ap, ◌∙◌}
-use Prim.Native.Nat.{◌<◌, ◌-◌}
+use Prim.Native.Nat.{◌<◌}
 use native.Mathlib.Omega.{arith}
 use Rattle.standard.specs.Constellation.{size_of, size, sizes}
 use Rattle.constellation.specs.Mask.{has}
@@ -10,7 +10,7 @@ use Rattle.constellation.proofs.Masks.{mask_size}
 use Rattle.constellation.proofs.sizes_of.Goals as goal
 
 pub loop-i-init : goal.loop-i-init
-loop-i-init c = (omega arith, filled_none _ 6 _ refl)
+loop-i-init c = filled_none _ 6 _ refl
 
 pub mask_of-requires : goal.mask_of-requires
 mask_of-requires c = let l : c.loop-i.i < 6 = omega arith in (l, c.requires c.loop-i.i l)
@@ -21,10 +21,10 @@ loop-i-preserved c =
     let r = c.args.r in
     let e : c.size_of.result ≡ size r l.i = c.size_of.ensures ∙ ap (λ (m : Mask). size_of (has m) 128) c.mask_of.ensures
     ∙ mask_size r l.i in
-    (omega arith, filled_more _ l.invariant.1 (omega arith) e)
+    filled_more _ l.invariant (omega arith) e
 
 pub returns : goal.returns
 unfolding sizes
 returns c =
     let e : c.loop-i.i ≡ 6 = omega arith in
-    filled-all (rw e at c.loop-i.invariant.1)
+    filled-all (rw e at c.loop-i.invariant)

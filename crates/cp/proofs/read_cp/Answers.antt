@@ -5,44 +5,32 @@ use mathlib.Core.List.{List}
 use Rattle.standard.specs.Bits.{bit_at}
 use Rattle.standard.specs.Cp.{record_in}
 use Rattle.standard.specs.First.{Answer, bare, first}
-use Rattle.standard.specs.Refusals.{outcome_answer}
 use Rattle.standard.specs.Calls.{read_call, read_refusal}
-use Rattle.standard.specs.declared.Outcome.{Outcome}
-use Rattle.standard.specs.declared.Outcome.TheVariants.{Done}
 use Rattle.standard.specs.declared.Record.{Record}
+use Rattle.faults.proofs.Faults.{handed_on}
 use Rattle.cp_faults.specs.Stages.{shape_tests, content_tests}
-use Rattle.cp_faults.proofs.Reading.{read_refused, read-accepted, refused_shape, past_shape}
+use Rattle.cp_faults.proofs.Reading.{read-accepted, refused_shape, past_shape}
 use Rattle.cp.proofs.read_cp.Goals as goal
 
 -- what the stage of 4 on answers for all
-content : (cp : List ℕ) (n : ℕ) {shape : Outcome} {r : Record} {a : Answer} → shape ≡ Done
-    → outcome_answer shape ≡ first (shape_tests cp n) → a ≡ first (content_tests (bit_at cp) n r) → r ≡ record_in (bit_at cp)
-    → a ≡ read_refusal (read_call cp n)
-content cp n {shape} q e f k = past_shape cp n shape q e (f ∙ ap (λ (r : Record). first (content_tests (bit_at cp) n r)) k)
+content : (cp : List ℕ) (n : ℕ) {r : Record} {a : Answer} → bare 0 ≡ first (shape_tests cp n)
+    → a ≡ first (content_tests (bit_at cp) n r) → r ≡ record_in (bit_at cp) → a ≡ read_refusal (read_call cp n)
+content cp n e f k = past_shape cp n e (f ∙ ap (λ (r : Record). first (content_tests (bit_at cp) n r)) k)
 
-pub returns-in-Refused : goal.returns-in-Refused
-returns-in-Refused c =
-    let a = c.args in
-    let o = c.shape_fault-shape.result in
-    let told = c.in-Refused.is in
-    let e = refused_shape a.cp.now a.bit_count o _ told c.shape_fault-shape.ensures in
-    (ap outcome_answer c.refused.ensures.0 ∙ e, c.refused.ensures.1 ∙ sym (read_refused a.cp.now a.bit_count o _ told e))
+pub returns-in_err-shape_fault-clause-refusal : goal.returns-in_err-shape_fault-clause-refusal
+returns-in_err-shape_fault-clause-refusal c =
+    refused_shape c.args.cp.now c.args.bit_count {X = Record} c.from_residual.result _ c.from_residual.ensures.1 c.in_err-shape_fault.ensures
 
-pub returns-in-Refused-content : goal.returns-in-Refused-content
-returns-in-Refused-content c =
-    let a = c.args in
-    let o = c.content_fault-content in
-    let told = c.in-Refused-content.is in
-    let e = content a.cp.now a.bit_count c.in_default.is c.shape_fault-shape.ensures o.ensures c.record_in-r.ensures in (
-      ap outcome_answer c.refused-in-Refused-content.ensures.0 ∙ e,
-      c.refused-in-Refused-content.ensures.1 ∙ sym (read_refused a.cp.now a.bit_count o.result _ told e),
-    )
+pub returns-in_err-content_fault-clause-refusal : goal.returns-in_err-content_fault-clause-refusal
+returns-in_err-content_fault-clause-refusal c =
+    handed_on {X = Record} c.from_residual-in_err-content_fault.result _ c.from_residual-in_err-content_fault.ensures.1
+    ∙ content c.args.cp.now c.args.bit_count c.in_ok-shape_fault.ensures c.in_err-content_fault.ensures c.record_in-r.ensures
 
-pub returns : goal.returns
-returns c =
-    let a = c.args in
-    let o = c.content_fault-content in
-    let e : bare 0 ≡ read_refusal (read_call a.cp.now a.bit_count) =
-    sym (ap outcome_answer c.in_default-content.is)
-    ∙ content a.cp.now a.bit_count c.in_default.is c.shape_fault-shape.ensures o.ensures c.record_in-r.ensures in
-    (e, c.record_in-r.ensures ∙ sym (read-accepted a.cp.now a.bit_count e))
+accepted : (c : goal.In_ok-content_fault) → bare 0 ≡ read_refusal (read_call c.args.cp.now c.args.bit_count)
+accepted c = content c.args.cp.now c.args.bit_count c.in_ok-shape_fault.ensures c.in_ok-content_fault.ensures c.record_in-r.ensures
+
+pub returns-clause-refusal : goal.returns-clause-refusal
+returns-clause-refusal c = accepted c
+
+pub returns-clause-read : goal.returns-clause-read
+returns-clause-read c = c.record_in-r.ensures ∙ sym (read-accepted c.args.cp.now c.args.bit_count (accepted c))

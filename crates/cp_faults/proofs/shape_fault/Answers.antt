@@ -22,9 +22,9 @@ module _ (s : List ℕ) (n : ℕ) where
   unfolding shape_tests count_too_small
   past2 l m e = past1 l (first_skip _ _ (le-ltb _ _ m) e)
 
-pub returns-then-cp-bit_count : goal.returns-then-cp-bit_count
+pub returns-then-cp-div_ceil : goal.returns-then-cp-div_ceil
 unfolding shape_tests count_exceeds_bytes
-returns-then-cp-bit_count c =
+returns-then-cp-div_ceil c =
     let l : 8 * length c.args.cp.now < c.args.bit_count = omega arith in
     first_hit 1 _ _ (lt-ltb _ _ l)
 

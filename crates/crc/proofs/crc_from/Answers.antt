@@ -1,6 +1,6 @@
 -- The register when the first `done` bits have passed. Assumes nothing.
 use mathlib.Core.Path.{◌≡◌, refl, ap, ◌∙◌}
-use Prim.Native.Nat.{ℕ, ◌+◌, ◌-◌}
+use Prim.Native.Nat.{ℕ, ◌+◌}
 use native.Mathlib.Omega.{arith}
 use Rattle.standard.specs.Lists.{list_from, after}
 use Rattle.standard.specs.Bits.{bit_at}
@@ -21,20 +21,20 @@ pub overflow_cast-some : goal.overflow_cast-some
 overflow_cast-some c =
     let f = bit_at c.args.bytes.now in
     let p = c.args.at + c.loop-done.done in
-    omega (arith, field-small f p c.step_of-n.result 16 c.step_of-n.ensures.1, c.field_at-some.ensures)
+    omega (arith, field-small f p c.min-n.result 16 (omega arith), c.field_at-some.ensures)
 
 pub crc_some-crc-requires : goal.crc_some-crc-requires
 crc_some-crc-requires c =
     let f = bit_at c.args.bytes.now in
     let p = c.args.at + c.loop-done.done in
-    (c.step_of-n.ensures.0, c.step_of-n.ensures.1, rw c.field_at-some.ensures (field_lt f p c.step_of-n.result))
+    (omega arith, omega arith, rw c.field_at-some.ensures (field_lt f p c.min-n.result))
 
 pub loop-done-preserved : goal.loop-done-preserved
 loop-done-preserved c =
     let a = c.args in
     let l = c.loop-done in (
       omega arith,
-      crc_more (bit_at a.bytes.now) a.register a.at l.done c.step_of-n.result l.crc c.crc_some-crc.result _
+      crc_more (bit_at a.bytes.now) a.register a.at l.done c.min-n.result l.crc c.crc_some-crc.result _
           l.invariant.1 c.field_at-some.ensures c.crc_some-crc.ensures,
     )
 

@@ -1,35 +1,30 @@
--- Turn h adds half h; the halves above g begin at 2 (g + 1). Assumes nothing.
-use mathlib.Core.Path.{◌≡◌, sym, ap₂, ◌∙◌}
+-- The halves above g begin at 2 (g + 1). Assumes nothing.
+use mathlib.Core.Path.{◌≡◌, sym, ap, ◌∙◌}
 use Prim.Native.Nat.{ℕ, ◌+◌, ◌*◌, ◌-◌}
-use mathlib.Core.Bool.{◌||◌}
+use mathlib.Core.Bool.{true, false, not}
 use native.Mathlib.Omega.{arith}
-use lib.ListN.{get_or}
+use lib.Dec.{eqb}
+use native.Mathlib.Nat.{le_of_eq}
+use lib.Seq.{take_all, get_or-drop}
+use lib.ListN.{length, drop, get_or, length-drop}
+use Rattle.std.proofs.Common.{rules}
+use Rattle.std.proofs.lemmas.Iterator.{YieldsList-from_slice, cases_from_any}
 use Rattle.standard.specs.Bits.{positive}
 use Rattle.standard.specs.Lists.{any}
 use Rattle.standard.specs.Refusals.{mask_above_indices}
 use Rattle.standard.proofs.Words.{positive-test}
-use Rattle.faults.proofs.Faults.{any-start, any-to}
+use Rattle.faults.proofs.Faults.{any_found}
 use Rattle.faults.proofs.mask_above_indices.Goals as goal
-
-pub loop-h-init : goal.loop-h-init
-loop-h-init c = (omega arith, omega arith, sym (any-start _ (2 * (c.largest_index.result + 1))))
-
-pub loop-h-preserved : goal.loop-h-preserved
-loop-h-preserved c =
-    let l = c.loop-h in
-    let mask = c.args.r.mask in (
-      omega arith,
-      omega arith,
-      ap₂ ◌||◌ l.invariant.2 (positive-test (get_or mask l.h 0))
-          ∙ sym (any-to (λ k. positive (get_or mask k 0)) (2 * (c.largest_index.result + 1)) l.h l.invariant.0),
-    )
 
 pub returns : goal.returns
 unfolding mask_above_indices
 returns c =
-    let l = c.loop-h in
-    let r = c.args.r in
-    let e : l.h ≡ 12 = omega arith in
-    l.invariant.2
-    ∙ ap₂ (λ (h g : ℕ). any (λ k. positive (get_or r.mask k 0)) (2 * (g + 1)) (h - 2 * (g + 1))) e
-    c.largest_index.ensures
+    let mask = c.args.r.mask in
+    let i = 2 * (c.largest_index.result + 1) in
+    let n : length (drop i mask) ≡ 12 - i = omega (arith, length-drop i mask) in
+    let rest : c.iter.result.rest.now ≡ drop i mask = c.iter.ensures.rest ∙ take_all _ _ (le_of_eq (length-drop i mask)) in
+    any_found positive (drop i mask) (λ h. positive (get_or mask h 0)) i (12 - i) c.any.result n (λ k h. ap positive (get_or-drop i mask k 0))
+    (cases_from_any _ _ _ (λ x. positive x ≡ true) (λ x. positive x ≡ false) c.any.ensures.ran (YieldsList-from_slice (drop i mask) rest)
+    (λ x q k. let e : not (eqb x.now 0) ≡ true = search rules in sym (positive-test x.now) ∙ e)
+    (λ x q k. let e : not (eqb x.now 0) ≡ false = search rules in let z : q ≡ tt = search rules in (z, sym (positive-test x.now) ∙ e)))
+    ∙ ap (λ (g : ℕ). any (λ h. positive (get_or mask h 0)) (2 * (g + 1)) (12 - 2 * (g + 1))) c.largest_index.ensures

@@ -8,12 +8,13 @@ use borrow.Author.Tests.{lt-ltb, le-ltb}
 use lib.ListN.{drop}
 use Rattle.standard.specs.First.{Answer, test, first}
 use Rattle.standard.specs.Refusals.{outcome_answer, drn_too_large, granted_below_full_rate, product_too_small, empty_tests, rate_tests}
-use Rattle.standard.specs.declared.Outcome.{Outcome}
-use Rattle.standard.specs.declared.Outcome.TheVariants.{Done}
+use Rattle.std.specs.Prelude.{Result, Ok}
 use Rattle.standard.specs.declared.Record.{Record}
+use Rattle.standard.specs.declared.Refusal.{Refusal}
 use Rattle.standard.proofs.First.{first_hit, first_skip}
 use Rattle.standard.proofs.Refusals.{empty_numbered}
-use Rattle.standard.proofs.Stages.{stage_hit, stage_past}
+use Rattle.standard.proofs.Stages.{stage_past}
+use Rattle.faults.proofs.Faults.{stage_hands_on}
 use Rattle.faults.proofs.rate_fault.Goals as goal
 
 module _ (r : Record) where
@@ -28,7 +29,7 @@ module _ (r : Record) where
   past2 l g e = past1 l (first_skip _ _ g e)
 
   -- and past the tests of 25
-  past3 : r.drn ≤ 28 → granted_below_full_rate r ≡ false → {o : Outcome} → o ≡ Done → outcome_answer o ≡ first (empty_tests r) → {a : Answer}
+  past3 : r.drn ≤ 28 → granted_below_full_rate r ≡ false → {o : Result (Unit {0}) Refusal} → o ≡ Ok tt → outcome_answer o ≡ first (empty_tests r) → {a : Answer}
       → a ≡ first (test 11 (product_too_small r) ∷ []) → a ≡ first (rate_tests r)
   unfolding rate_tests
   past3 l g {o} q f e = past2 l g (stage_past o (empty_tests r) _ (empty_numbered r) q f e)
@@ -45,24 +46,23 @@ returns-then-granted_below_full_rate c =
     let l : c.args.r.drn ≤ 28 = omega arith in
     past1 c.args.r l (first_hit 10 _ _ (sym c.granted_below_full_rate.ensures ∙ c.if-granted_below_full_rate.true))
 
-pub returns-in-Refused : goal.returns-in-Refused
+pub returns-in_err-empty_fault : goal.returns-in_err-empty_fault
 unfolding rate_tests
-returns-in-Refused c =
+returns-in_err-empty_fault c =
     let r = c.args.r in
-    let empty = c.empty_fault-empty in
     let l : r.drn ≤ 28 = omega arith in
     past2 r l (sym c.granted_below_full_rate.ensures ∙ c.if-granted_below_full_rate.false)
-    (stage_hit empty.result _ (empty_tests r) _ c.in-Refused.is empty.ensures)
+    (stage_hands_on c.from_residual.result _ (empty_tests r) _ c.from_residual.ensures.1 c.in_err-empty_fault.ensures)
 
 pub returns-then-product_too_small : goal.returns-then-product_too_small
 returns-then-product_too_small c =
     let l : c.args.r.drn ≤ 28 = omega arith in
-    past3 c.args.r l (sym c.granted_below_full_rate.ensures ∙ c.if-granted_below_full_rate.false) c.in_default.is c.empty_fault-empty.ensures
+    past3 c.args.r l (sym c.granted_below_full_rate.ensures ∙ c.if-granted_below_full_rate.false) c.in_ok-empty_fault.was c.empty_fault.ensures
     (first_hit 11 _ _ (sym c.product_too_small.ensures ∙ c.if-product_too_small.true))
 
 pub returns : goal.returns
 unfolding first
 returns c =
     let l : c.args.r.drn ≤ 28 = omega arith in
-    past3 c.args.r l (sym c.granted_below_full_rate.ensures ∙ c.if-granted_below_full_rate.false) c.in_default.is c.empty_fault-empty.ensures
+    past3 c.args.r l (sym c.granted_below_full_rate.ensures ∙ c.if-granted_below_full_rate.false) c.in_ok-empty_fault.was c.empty_fault.ensures
     (first_skip _ [] (sym c.product_too_small.ensures ∙ c.if-product_too_small.false) refl)

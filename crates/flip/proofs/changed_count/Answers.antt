@@ -32,15 +32,12 @@ step c = byte_weight c.changes.result
 
 pub loop-p-init : goal.loop-p-init
 unfolding list_where
-loop-p-init c = (omega arith, omega arith, omega arith, omega arith, refl)
+loop-p-init c = (omega arith, refl)
 
 pub loop-p-preserved : goal.loop-p-preserved
 loop-p-preserved c =
     let a = c.args in
     let l = c.loop-p in (
-      l.invariant.0,
-      omega arith,
-      omega arith,
       omega (arith, step c, weight-lt c.changes.result),
       omega (arith, step c, below_next a.k a.i l.p c.changes.result c.changes.ensures),
     )
@@ -51,7 +48,7 @@ returns c =
     let a = c.args in
     let l = c.loop-p in
     let all : l.p ≡ next_sign a.k a.i + 24 = omega arith in
-    l.invariant.4 ∙ ap (below a.k a.i) all
+    l.invariant.1 ∙ ap (below a.k a.i) all
 
 pub overflow_add-count : goal.overflow_add-count
 overflow_add-count c = omega (arith, step c, weight-lt c.changes.result)

@@ -1,9 +1,9 @@
 -- Turn p has counted those below p. Assumes nothing.
 use mathlib.Core.Path.{◌≡◌}
-use Prim.Native.Nat.{ℕ, ◌+◌, ◌-◌, ◌^◌, ◌≤◌, ◌<◌}
+use Prim.Native.Nat.{ℕ, ◌≤◌}
 use lib.ListN.{length}
 use Rattle.standard.specs.Lists.{list_where}
-use Rattle.standard.specs.Flip.{next_sign, changes}
+use Rattle.standard.specs.Flip.{changes}
 use Rattle.flip.proofs.changed_count.Given as goal
 
 -- how many below p change
@@ -12,7 +12,4 @@ below k i p = length (list_where (changes k i) 0 p)
 
 abbrev pub invariant-loop-p : goal.invariant-loop-p
 invariant-loop-p l =
-    (l.end ≡ next_sign l.k l.i + 24) × (l.end < 2 ^ 34) × (l.p ≤ l.end) × (l.count ≤ l.p) × (l.count ≡ below l.k l.i l.p)
-
-abbrev pub decreases-loop-p : goal.decreases-loop-p
-decreases-loop-p l = l.end - l.p
+    (l.count ≤ l.p) × (l.count ≡ below l.k l.i l.p)

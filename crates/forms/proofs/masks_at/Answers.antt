@@ -7,14 +7,14 @@ use native.Mathlib.Omega.{arith}
 use Rattle.forms.proofs.masks_at.Goals as goal
 
 pub loop-h-init : goal.loop-h-init
-loop-h-init c = (omega arith, filled_none _ 12 _ refl)
+loop-h-init c = filled_none _ 12 _ refl
 
 pub loop-h-preserved : goal.loop-h-preserved
 loop-h-preserved c =
     let l = c.loop-h in
     let s = c.args.bytes.now in
     let e : 8 * (9 + 8 * l.h) ≡ 72 + 64 * l.h = omega arith in
-    (omega arith, filled_more _ l.invariant.1 (omega arith) (c.word_at.ensures ∙ ap (λ (p : ℕ). field (bit_at s) p 64) e))
+    filled_more _ l.invariant (omega arith) (c.word_at.ensures ∙ ap (λ (p : ℕ). field (bit_at s) p 64) e)
 
 pub returns : goal.returns
-returns c = let e : c.loop-h.h ≡ 12 = omega arith in filled-all (rw e at c.loop-h.invariant.1)
+returns c = let e : c.loop-h.h ≡ 12 = omega arith in filled-all (rw e at c.loop-h.invariant)

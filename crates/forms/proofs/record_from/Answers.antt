@@ -11,6 +11,6 @@ returns c =
     rw (
       positive-test (get_or s 0 0),
       positive-test (get_or s 2 0),
-      c.indices_at-index.ensures,
-      c.masks_at-mask.ensures,
+      c.indices_at.ensures,
+      c.masks_at.ensures,
     )

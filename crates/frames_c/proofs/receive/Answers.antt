@@ -32,15 +32,14 @@ returns c =
     let r = c.record_from-r in
     let line = c.state_from-line in
     let law = c.law_of in
-    let entry = c.receive-done in
+    let e = c.receive-said.ensures in
     let heard = c.end_heard in
     let end = c.end_call in
     receive-ended a.rec.now a.a_law a.frames a.control a.octets.now a.bits.now a.marks.now a.heard.now
     a.state.now
     (sym c.lent_short.ensures ∙ c.if-lent_short.false) r.result r.ensures line.result line.ensures
-    entry.result.outcome (omega (arith, c.if-heard-lt-HEARD_BYTES.false)) law.result law.ensures entry.ensures.0 entry.result.state entry.ensures.1
-    entry.result.said entry.ensures.2 _ entry.ensures.3 _ entry.ensures.4
-    _ end.ensures.0 _ heard.ensures _ end.ensures.1
+    (omega (arith, c.if-heard-lt-HEARD_BYTES.false)) law.result law.ensures c.receive-said.result e.refusal _ e.left e.said _ e.bytes _ e.marks
+    _ end.ensures.0 _ heard.ensures.accepted heard.ensures.refused _ end.ensures.1
 
 pub record_from-r-requires : goal.record_from-r-requires
 record_from-r-requires c = (both_long _ _ (sym c.lent_short.ensures ∙ c.if-lent_short.false)).0

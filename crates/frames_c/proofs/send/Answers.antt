@@ -16,12 +16,12 @@ returns c =
     let r = c.record_from-r in
     let line = c.state_from-line in
     let law = c.law_of in
-    let entry = c.send-done in
+    let e = c.send-sent.ensures in
     let end = c.end_call in
     send-ended a.rec.now a.a_law a.frames a.control a.sequence a.bits.now a.octets.now a.state.now
     (sym c.lent_short.ensures ∙ c.if-lent_short.false)
     r.result r.ensures line.result line.ensures law.result law.ensures
-    entry.result.outcome entry.ensures.0 entry.result.state entry.ensures.1 _ entry.ensures.2
+    c.send-sent.result e.refusal _ e.left _ e.octets
     _ end.ensures.0 _ end.ensures.1
 
 pub record_from-r-requires : goal.record_from-r-requires

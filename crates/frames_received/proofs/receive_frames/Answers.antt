@@ -25,23 +25,19 @@ use Rattle.frame.specs.Allowed.{Allowed, Drawn}
 use Rattle.frames_received.proofs.Loops.{receive_start, receivable, receive_more, receive_all, word_fits, bits-room}
 use Rattle.frames_received.proofs.receive_frames.Goals as goal
 
--- the state that it gets is carried
-carried : {st : LineState} (x : Carried) (q : List ℕ) → state_of x st.sequence ≡ st → q ≡ st.sequence → state_of x q ≡ st
-carried x q e same = ap (state_of x) same ∙ e
-
 -- what the call draws up is drawn up of its record
-drawn : {r : Record} {N : ℕ} {st : LineState} (x : Carried) (q : List ℕ) {m : Mapping} {ls : List (List ℕ)} → Allowed r st N
-    → state_of x q ≡ st → m ≡ mapping_of r → ls ≡ label_tables r → Drawn label_tables r (state_of x q) N m ls
-drawn x q w e em el = record { allowed = rw e w; mapped = em; tabled = el }
+drawn : {r : Record} {N : ℕ} {st : LineState} (x : Carried) {m : Mapping} {ls : List (List ℕ)} → Allowed r st N
+    → state_of x st.sequence ≡ st → m ≡ mapping_of r → ls ≡ label_tables r → Drawn label_tables r (state_of x st.sequence) N m ls
+drawn x w e em el = record { allowed = rw e w; mapped = em; tabled = el }
 
 -- the data buffer has room for the call's bits
-room_for : (r : Record) (on : Bool) (N : ℕ) {st : LineState} (x : Carried) (q bs : List ℕ) → state_of x q ≡ st
+room_for : (r : Record) (on : Bool) (N : ℕ) {st : LineState} (x : Carried) (bs : List ℕ) → state_of x st.sequence ≡ st
     → bytes_for (call_bits r on st.place N) ≤ length bs → bytes_for (call_bits r on x.place N) ≤ length bs
-room_for r on N x q bs e h =
+room_for r on N x bs e h =
     subst (λ (p : ℕ). bytes_for (call_bits r on p N) ≤ length bs) (sym (ap (λ (st : LineState). st.place) e)) h
 
 pub draw_up-mapping-requires : goal.draw_up-mapping-requires
-draw_up-mapping-requires c = (c.requires.0.index, refl, refl)
+draw_up-mapping-requires c = c.requires.0.index
 
 pub carry-line-requires : goal.carry-line-requires
 carry-line-requires c = c.requires.0.history
@@ -50,7 +46,7 @@ pub loop-n-init : goal.loop-n-init
 loop-n-init c =
     let a = c.args in
     let w = c.requires.0 in
-    let e = carried c.carry-line.result c.own_bits-sequence.result c.carry-line.ensures.0 c.own_bits-sequence.ensures.0 in
+    let e = c.carry-line.ensures.0 in
     let byte : (i : ℕ) → get_or a.bytes.now i 0 < 256 = λ i. omega (arith, c.type_inv.bytes i) in
     let empty = poured-none a.bytes.now 0 byte in (
       record {
@@ -58,10 +54,9 @@ loop-n-init c =
         place = rw (ap (λ (st : LineState). st.place) e) w.place;
         done = rw (ap (λ (st : LineState). st.done) e) w.done;
       },
-      c.own_bits-sequence.ensures.1,
       record { few = omega arith; small = omega arith },
       λ r d. rw empty
-          (receive_start r a.law a.control a.frames (state_of c.carry-line.result c.own_bits-sequence.result) a.octets.now
+          (receive_start r a.law a.control a.frames (state_of c.carry-line.result a.state.sequence) a.octets.now
           a.bytes.now a.marks.now byte),
     )
 
@@ -78,11 +73,10 @@ pub receive_frame-got-requires : goal.receive_frame-got-requires
 receive_frame-got-requires c =
     let a = c.args in
     let l = c.loop-n in
-    let e = carried c.carry-line.result c.own_bits-sequence.result c.carry-line.ensures.0 c.own_bits-sequence.ensures.0 in
-    let d = drawn c.carry-line.result c.own_bits-sequence.result c.requires.0 e c.draw_up-mapping.ensures.0 c.draw_up-mapping.ensures.2 in
+    let e = c.carry-line.ensures.0 in
+    let d = drawn c.carry-line.result c.requires.0 e c.draw_up-mapping.ensures.0 c.draw_up-mapping.ensures.2 in
     let able = receivable _ a.law a.control a.frames _ a.octets.now a.bytes.now a.marks.now _ _ l.line d l.invariant.0 in (
       (_, able),
-      l.invariant.1,
       part_long a.octets.now (6 * l.n) 6 (omega (arith, c.requires.1)),
     )
 
@@ -90,56 +84,49 @@ pub pour-pouring-requires : goal.pour-pouring-requires
 pour-pouring-requires c =
     let a = c.args in
     let l = c.loop-n in
-    let e = carried c.carry-line.result c.own_bits-sequence.result c.carry-line.ensures.0 c.own_bits-sequence.ensures.0 in
-    let d = drawn c.carry-line.result c.own_bits-sequence.result c.requires.0 e c.draw_up-mapping.ensures.0 c.draw_up-mapping.ensures.2 in
+    let e = c.carry-line.ensures.0 in
+    let d = drawn c.carry-line.result c.requires.0 e c.draw_up-mapping.ensures.0 c.draw_up-mapping.ensures.2 in
     let wide : c.width_of.result ≡ width a.r (is_control a.control l.line.place) =
     c.width_of.ensures ∙ ap₂ (λ (b : Bool) (m : Mapping). cond b m.k m.d) c.is_control-is_control.ensures d.mapped in
     let narrow = (width_in _ _ d.mapped d.allowed.rate c.is_control-is_control.result _ c.width_of.ensures).1 in
     let received = c.receive_frame-got.ensures _
     (receivable _ a.law a.control a.frames _ a.octets.now a.bytes.now a.marks.now _ _ l.line d l.invariant.0) in
-    let long : length l.bytes ≡ length a.bytes.now = sym (length-poured l.bytes l.pouring) ∙ (l.invariant.3 _ d).long_bits in
-    let room = room_for a.r a.control a.frames c.carry-line.result c.own_bits-sequence.result a.bytes.now e c.requires.2 in
+    let long : length l.bytes ≡ length a.bytes.now = sym (length-poured l.bytes l.pouring) ∙ (l.invariant.2 _ d).long_bits in
+    let room = room_for a.r a.control a.frames c.carry-line.result a.bytes.now e c.requires.2 in
     let enough = bits-room a.r a.law a.control a.frames _ a.octets.now a.bytes.now a.marks.now l.n _ _ l.line
-    l.sequence _ _ l.bytes l.marks _ _ _ (l.invariant.3 _ d) c.loop-n-test.true c.requires.1 refl wide received room in
-    (l.invariant.2, omega (arith, narrow), omega (arith, enough, long, length-poured l.bytes l.pouring))
+    l.sequence _ _ l.bytes l.marks _ _ _ (l.invariant.2 _ d) c.loop-n-test.true c.requires.1 refl wide received room in
+    (l.invariant.1, omega (arith, narrow), omega (arith, enough, long, length-poured l.bytes l.pouring))
 
 pub bounds-marks-n : goal.bounds-marks-n
 bounds-marks-n c =
     let a = c.args in
     let l = c.loop-n in
-    let e = carried c.carry-line.result c.own_bits-sequence.result c.carry-line.ensures.0 c.own_bits-sequence.ensures.0 in
-    let d = drawn c.carry-line.result c.own_bits-sequence.result c.requires.0 e c.draw_up-mapping.ensures.0 c.draw_up-mapping.ensures.2 in
-    omega (arith, c.loop-n-test.true, c.requires.3, (l.invariant.3 _ d).long_marks)
-
-pub say-said-requires : goal.say-said-requires
-say-said-requires c = c.receive_frame-got.auto.sequence ∙ c.loop-n.invariant.1
-
-pub overflow_add-n : goal.overflow_add-n
-overflow_add-n c = omega (arith, c.loop-n-test.true, c.requires.0.few)
+    let e = c.carry-line.ensures.0 in
+    let d = drawn c.carry-line.result c.requires.0 e c.draw_up-mapping.ensures.0 c.draw_up-mapping.ensures.2 in
+    omega (arith, c.loop-n-test.true, c.requires.3, (l.invariant.2 _ d).long_marks)
 
 pub loop-n-preserved : goal.loop-n-preserved
 loop-n-preserved c =
     let a = c.args in
     let l = c.loop-n in
-    let e = carried c.carry-line.result c.own_bits-sequence.result c.carry-line.ensures.0 c.own_bits-sequence.ensures.0 in
-    let d = drawn c.carry-line.result c.own_bits-sequence.result c.requires.0 e c.draw_up-mapping.ensures.0 c.draw_up-mapping.ensures.2 in
+    let e = c.carry-line.ensures.0 in
+    let d = drawn c.carry-line.result c.requires.0 e c.draw_up-mapping.ensures.0 c.draw_up-mapping.ensures.2 in
     let wide : c.width_of.result ≡ width a.r (is_control a.control l.line.place) =
     c.width_of.ensures ∙ ap₂ (λ (b : Bool) (m : Mapping). cond b m.k m.d) c.is_control-is_control.ensures d.mapped in
     let narrow = (width_in _ _ d.mapped d.allowed.rate c.is_control-is_control.result _ c.width_of.ensures).1 in
-    let able = λ (r : Record) (d : Drawn label_tables r (state_of c.carry-line.result c.own_bits-sequence.result) a.frames
+    let able = λ (r : Record) (d : Drawn label_tables r (state_of c.carry-line.result a.state.sequence) a.frames
     c.draw_up-mapping.result c.draw_up-mapping.new.labels).
     receivable r a.law a.control a.frames _ a.octets.now a.bytes.now a.marks.now _ _ l.line d l.invariant.0 in
     let received = c.receive_frame-got.ensures _ (able _ d) in
     let fits = word_fits a.r a.law a.control a.frames _ a.octets.now a.bytes.now a.marks.now l.n _ _ l.line l.sequence
-    _ _ l.bytes l.marks _ _ _ (l.invariant.3 _ d) c.loop-n-test.true c.requires.1 refl wide received in
-    let put = pours l.bytes l.pouring c.width_of.result c.receive_frame-got.result.bits l.invariant.2 fits
+    _ _ l.bytes l.marks _ _ _ (l.invariant.2 _ d) c.loop-n-test.true c.requires.1 refl wide received in
+    let put = pours l.bytes l.pouring c.width_of.result c.receive_frame-got.result.bits l.invariant.1 fits
     (omega (arith, narrow)) _ _ c.pour-pouring.ensures.0 c.pour-pouring.ensures.1 in (
       received.bounded,
-      c.receive_frame-got.auto.sequence ∙ l.invariant.1,
       put.0,
       λ r d.
           receive_more r a.law a.control a.frames _ a.octets.now a.bytes.now a.marks.now l.n _ _ l.line
-          l.sequence _ _ _ l.marks _ _ l.said (l.invariant.3 r d) c.loop-n-test.true c.requires.1 refl
+          l.sequence _ _ _ l.marks _ _ l.said (l.invariant.2 r d) c.loop-n-test.true c.requires.1 refl
           (c.width_of.ensures ∙ ap₂ (λ (b : Bool) (m : Mapping). cond b m.k m.d) c.is_control-is_control.ensures d.mapped)
           (c.receive_frame-got.ensures r (able r d)) c.requires.3 _
           (ap (λ (b : Bool). b && eqb l.line.done 15) c.is_control-is_control.ensures) put.2 _ put.1 _
@@ -150,15 +137,15 @@ pub pour_out-requires : goal.pour_out-requires
 pour_out-requires c =
     let a = c.args in
     let l = c.loop-n in
-    let e = carried c.carry-line.result c.own_bits-sequence.result c.carry-line.ensures.0 c.own_bits-sequence.ensures.0 in
-    let d = drawn c.carry-line.result c.own_bits-sequence.result c.requires.0 e c.draw_up-mapping.ensures.0 c.draw_up-mapping.ensures.2 in
-    let p = l.invariant.3 _ d in
+    let e = c.carry-line.ensures.0 in
+    let d = drawn c.carry-line.result c.requires.0 e c.draw_up-mapping.ensures.0 c.draw_up-mapping.ensures.2 in
+    let p = l.invariant.2 _ d in
     let all : l.n ≡ a.frames = omega (arith, p.done) in
     let used : 8 * l.pouring.to + l.pouring.count ≡ call_bits a.r a.control c.carry-line.result.place a.frames =
     p.filled ∙ ap (call_bits _ _ _) all in
-    let long : length l.bytes ≡ length a.bytes.now = sym (length-poured l.bytes l.pouring) ∙ (l.invariant.3 _ d).long_bits in
-    let room = room_for a.r a.control a.frames c.carry-line.result c.own_bits-sequence.result a.bytes.now e c.requires.2 in
-    (l.invariant.2, omega (arith, room, long, used))
+    let long : length l.bytes ≡ length a.bytes.now = sym (length-poured l.bytes l.pouring) ∙ (l.invariant.2 _ d).long_bits in
+    let room = room_for a.r a.control a.frames c.carry-line.result a.bytes.now e c.requires.2 in
+    (l.invariant.1, omega (arith, room, long, used))
 
 pub state_of-requires : goal.state_of-requires
 state_of-requires c = c.loop-n.invariant.0
@@ -167,36 +154,36 @@ pub shape_of-bytes : goal.shape_of-bytes
 shape_of-bytes c =
     let a = c.args in
     let l = c.loop-n in
-    let e = carried c.carry-line.result c.own_bits-sequence.result c.carry-line.ensures.0 c.own_bits-sequence.ensures.0 in
-    let d = drawn c.carry-line.result c.own_bits-sequence.result c.requires.0 e c.draw_up-mapping.ensures.0 c.draw_up-mapping.ensures.2 in
-    let long : length l.bytes ≡ length a.bytes.now = sym (length-poured l.bytes l.pouring) ∙ (l.invariant.3 _ d).long_bits in
+    let e = c.carry-line.ensures.0 in
+    let d = drawn c.carry-line.result c.requires.0 e c.draw_up-mapping.ensures.0 c.draw_up-mapping.ensures.2 in
+    let long : length l.bytes ≡ length a.bytes.now = sym (length-poured l.bytes l.pouring) ∙ (l.invariant.2 _ d).long_bits in
     c.pour_out.auto.bytes ∙ long
 
 pub shape_of-marks : goal.shape_of-marks
 shape_of-marks c =
     let a = c.args in
     let l = c.loop-n in
-    let e = carried c.carry-line.result c.own_bits-sequence.result c.carry-line.ensures.0 c.own_bits-sequence.ensures.0 in
-    let d = drawn c.carry-line.result c.own_bits-sequence.result c.requires.0 e c.draw_up-mapping.ensures.0 c.draw_up-mapping.ensures.2 in
-    (l.invariant.3 _ d).long_marks
+    let e = c.carry-line.ensures.0 in
+    let d = drawn c.carry-line.result c.requires.0 e c.draw_up-mapping.ensures.0 c.draw_up-mapping.ensures.2 in
+    (l.invariant.2 _ d).long_marks
 
 pub returns : goal.returns
 returns c =
     let a = c.args in
     let l = c.loop-n in
-    let e = carried c.carry-line.result c.own_bits-sequence.result c.carry-line.ensures.0 c.own_bits-sequence.ensures.0 in
-    let d = drawn c.carry-line.result c.own_bits-sequence.result c.requires.0 e c.draw_up-mapping.ensures.0 c.draw_up-mapping.ensures.2 in
+    let e = c.carry-line.ensures.0 in
+    let d = drawn c.carry-line.result c.requires.0 e c.draw_up-mapping.ensures.0 c.draw_up-mapping.ensures.2 in
     let N = a.frames in
     let os = take (6 * N) a.octets.now in
     let byte : (i : ℕ) → get_or a.bytes.now i 0 < 256 = λ i. grind arith in
-    let room = room_for a.r a.control a.frames c.carry-line.result c.own_bits-sequence.result a.bytes.now e c.requires.2 in
+    let room = room_for a.r a.control a.frames c.carry-line.result a.bytes.now e c.requires.2 in
     let filled = 8 * l.pouring.to + l.pouring.count in
     let rest : 8 * bytes_for l.pouring.count - l.pouring.count ≡ 8 * bytes_for filled - filled = omega arith in
     let all =
     receive_all a.r a.law a.control N _ a.octets.now a.bytes.now a.marks.now l.n filled
     (state_of l.line l.sequence)
-    l.said _ _ l.marks (l.invariant.3 _ d) (omega arith) byte room
-    (poured-out l.bytes _ l.pouring l.invariant.2 c.pour_out.ensures
+    l.said _ _ l.marks (l.invariant.2 _ d) (omega arith) byte room
+    (poured-out l.bytes _ l.pouring l.invariant.1 c.pour_out.ensures
     ∙ ap (λ (k : ℕ). put_field (poured l.bytes l.pouring) filled k 0) rest) in (
       c.state_of.ensures ∙ all.0 ∙ ap (λ (st : LineState). receive_after a.r a.law a.control N st os) e,
       all.1 ∙ ap (λ (st : LineState). last_or Nothing (receive_said a.r a.law a.control N st os)) e,

@@ -9,7 +9,7 @@ use Rattle.hearing.specs.Legible.{label_in}
 use Rattle.hearing.proofs.labels_in.Goals as goal
 
 pub loop-i-init : goal.loop-i-init
-loop-i-init c = (omega arith, filled_none _ 6 _ refl)
+loop-i-init c = filled_none _ 6 _ refl
 
 pub overflow_cast-u : goal.overflow_cast-u
 overflow_cast-u c = omega (arith, c.ucode_of-u.ensures.1)
@@ -22,7 +22,7 @@ unfolding label_in
 loop-i-preserved c =
     let l = c.loop-i in
     let t = get_or c.args.labels.now l.i [] in
-    (omega arith, filled_more _ l.invariant.1 (omega arith) (ap (λ (u : ℕ). get_or t u 0) c.ucode_of-u.ensures.0))
+    filled_more _ l.invariant (omega arith) (ap (λ (u : ℕ). get_or t u 0) c.ucode_of-u.ensures.0)
 
 pub returns : goal.returns
-returns c = let e : c.loop-i.i ≡ 6 = omega arith in filled-all (rw e at c.loop-i.invariant.1)
+returns c = let e : c.loop-i.i ≡ 6 = omega arith in filled-all (rw e at c.loop-i.invariant)

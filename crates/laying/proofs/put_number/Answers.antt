@@ -1,5 +1,5 @@
 -- Low byte first. Assumes nothing.
-use mathlib.Core.Path.{◌≡◌, sym, ◌∙◌}
+use mathlib.Core.Path.{◌≡◌, sym}
 use Prim.Native.Nat.{◌-◌}
 use native.Mathlib.Omega.{arith}
 use Rattle.standard.specs.Settings.{little}
@@ -19,7 +19,7 @@ loop-i-preserved c =
     let l = c.loop-i in (
       paste_more a.out.now (little a.w a.v) a.to a.w (omega arith) (length-little a.w a.v) l.out l.i _
           l.invariant.0 (omega arith)
-          (c.low_byte.ensures ∙ sym (little-rest a.w a.v l.i l.rest (omega arith) l.invariant.1)),
+          (sym (little-rest a.w a.v l.i l.rest (omega arith) l.invariant.1)),
       little-next a.w a.v l.i l.rest (omega arith) l.invariant.1,
     )
 

@@ -8,6 +8,3 @@ use Rattle.laying.proofs.put_number.Given as goal
 
 abbrev pub invariant-loop-i : goal.invariant-loop-i
 invariant-loop-i l = Pasting l.initial.out (little l.w l.v) l.to l.w l.out l.i × (drop l.i (little l.w l.v) ≡ little (l.w - l.i) l.rest)
-
-abbrev pub decreases-loop-i : goal.decreases-loop-i
-decreases-loop-i l = l.w - l.i

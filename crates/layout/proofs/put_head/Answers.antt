@@ -7,10 +7,10 @@ pub returns : goal.returns
 unfolding put_fields head_fields
 returns c =
     rw (
+      c.put_field-5.ensures,
+      c.put_field-4.ensures,
+      c.put_field-3.ensures,
+      c.put_field-2.ensures,
       c.put_field.ensures,
-      c.put_flag-3.ensures,
-      c.put_flag-2.ensures,
-      c.put_byte_field.ensures,
-      c.put_flag.ensures,
       c.put_indices.ensures,
     )

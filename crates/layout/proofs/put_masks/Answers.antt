@@ -1,5 +1,5 @@
 -- The runs from k on are put. Assumes nothing.
-use mathlib.Core.Path.{◌≡◌, refl, sym, ap, ◌∙◌}
+use mathlib.Core.Path.{◌≡◌, sym, ap, ◌∙◌}
 use Prim.Native.Nat.{◌+◌, ◌*◌, ◌-◌}
 use Rattle.standard.specs.Record.{top_index}
 use Rattle.layout.specs.Writing.{put_fields}
@@ -8,31 +8,20 @@ use native.Mathlib.Omega.{arith}
 use Rattle.layout.proofs.put_masks.Goals as goal
 
 pub loop-k-init : goal.loop-k-init
-loop-k-init c = (omega arith, refl, run_none _ c.args.r.mask (8 * (c.largest_index.result + 1)))
+loop-k-init c = run_none _ c.args.r.mask (8 * (c.largest_index.result + 1))
 
 pub put_run-requires : goal.put_run-requires
-put_run-requires c =
-    (omega arith, omega arith, omega arith)
+put_run-requires c = (omega arith, omega arith, omega arith)
 
 pub loop-k-preserved : goal.loop-k-preserved
 loop-k-preserved c =
     let l = c.loop-k in
-    let call = c.put_run in (
-      omega arith,
-      call.auto.cp ∙ l.invariant.1,
-      run_more _ l.cp _
-          c.args.r.mask l.k _ (omega arith) l.invariant.0
-          l.invariant.2 call.ensures,
-    )
-
-pub shape_of-cp : goal.shape_of-cp
-shape_of-cp c = c.loop-k.invariant.1
+    run_more _ l.cp _ c.args.r.mask l.k _ (omega arith) (omega arith) l.invariant c.put_run.ensures
 
 pub returns : goal.returns
 returns c =
     let a = c.args in
     let l = c.loop-k in
     let e : l.k ≡ 0 = omega arith in
-    let n : 8 * (c.largest_index.result + 1) - 0 ≡ 8 * (top_index a.r + 1) = omega
-    (arith, c.largest_index.ensures) in
-    l.invariant.2 ∙ ap (put_fields a.cp.now) (rw (e, n) (sym (mask_fields_lem a.r)))
+    let n : 8 * (c.largest_index.result + 1) - 0 ≡ 8 * (top_index a.r + 1) = omega (arith, c.largest_index.ensures) in
+    l.invariant ∙ ap (put_fields a.cp.now) (rw (e, n) (sym (mask_fields_lem a.r)))

@@ -31,5 +31,5 @@ returns c =
     let a = c.args in
     let v = c.version_in-v in
     let left = length a.s.now - trailer v.result - a.at in
-    ap (λ (k : ℕ). leb (4 + k + v.result.start) left) c.wide.ensures.value
+    ap (λ (k : ℕ). leb (4 + k + v.result.start) left) c.from.ensures
     ∙ there_is a.s.now a.at v.result v.ensures.0 (omega arith)

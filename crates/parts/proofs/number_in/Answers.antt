@@ -1,40 +1,28 @@
--- A word that is empty, has more than 18 characters or one that is no digit says no number. Assumes nothing.
-use mathlib.Core.Path.{◌≡◌, sym, ap, ◌∙◌}
-use mathlib.Core.Bool.{true, false}
-use native.Mathlib.Omega.{arith}
-use borrow.Author.Tests.{lt-ltb, le-ltb}
-use lib.Dec.{ltb}
-use lib.ListN.{length}
-use Rattle.parts.specs.Parts.{all_digits, number_in}
-use Rattle.parts.specs.declared.Number.{Number}
-use Rattle.parts.proofs.Digits.{number_of_lem}
+-- A word of 1 to 18 digits says a number, and no other word. Assumes nothing.
+use Rattle.std.proofs.Common.{◌≡◌, ℕ, List, ◌<◌, ◌⊎◌, inl, inr, ◌≤◌, ◌∙◌, true, false, Some, None, ltb, length, ap, sym, rules, arith, lt-ltb, le-ltb}
+use Rattle.parts.specs.Parts.{number_in}
 use Rattle.parts.proofs.number_in.Goals as goal
+use Rattle.parts.proofs.number_in.Goals.{else-contains-via-then-contains+else-all_digits, else-contains-via-else-contains}
 
-digits : (c : goal.Else-not-all_digits) → all_digits c.args.word.now ≡ true
-digits c = sym c.all_digits.ensures ∙ c.if-not-all_digits.false
-
-pub returns-then-word-eq0 : goal.returns-then-word-eq0
+out_of_range : (word : List ℕ) → (length word < 1) ⊎ (18 < length word) → None ≡ number_in word
 unfolding number_in
-returns-then-word-eq0 c = let n = length c.args.word.now in let a : ltb 0 n ≡ false = le-ltb 0 n (omega arith) in rw a
-
-pub returns-then-word-gt18 : goal.returns-then-word-gt18
-unfolding number_in
-returns-then-word-gt18 c =
-    let n = length c.args.word.now in
-    let a : ltb 0 n ≡ true = lt-ltb 0 n (omega arith) in
-    let b : ltb n 19 ≡ false = le-ltb n 19 (omega arith) in
+out_of_range word (inl h) = let a : ltb 0 (length word) ≡ false = le-ltb 0 (length word) (omega arith) in rw a
+out_of_range word (inr h) =
+    let a : ltb 0 (length word) ≡ true = lt-ltb 0 (length word) (omega arith) in
+    let b : ltb (length word) 19 ≡ false = le-ltb (length word) 19 (omega arith) in
     rw (a, b)
 
-pub returns-then-not-all_digits : goal.returns-then-not-all_digits
-returns-then-not-all_digits c =
-    let word = c.args.word.now in
-    let d = sym c.all_digits.ensures ∙ c.if-not-all_digits.true in
-    number_of_lem word (omega arith) (omega arith) d
+pub returns-then-all_digits : goal.returns-then-all_digits
+unfolding number_in
+returns-then-all_digits c =
+    let n = length c.args.word.now in
+    let a : 1 ≤ n = search rules in
+    let b : n ≤ 18 = search rules in
+    rw (lt-ltb 0 n (omega arith), lt-ltb n 19 (omega arith), sym c.all_digits.ensures ∙ c.if-all_digits.true) (ap Some c.value_of.ensures)
 
 pub returns : goal.returns
-returns c =
-    let word = c.args.word.now in
-    ap Number.Is c.value_of.ensures ∙ number_of_lem word (omega arith) (omega arith) (sym c.all_digits.ensures ∙ c.if-not-all_digits.false)
-
-pub value_of-requires : goal.value_of-requires
-value_of-requires c = (omega arith, digits c)
+unfolding number_in
+returns c = elim c.else-contains.branch [
+  | else-contains-via-then-contains+else-all_digits w ↦ rw (sym w.all_digits.ensures ∙ w.if-all_digits.false) (search rules)
+  | else-contains-via-else-contains w ↦ out_of_range c.args.word.now (search rules)
+]

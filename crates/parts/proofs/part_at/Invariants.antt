@@ -7,6 +7,3 @@ use Rattle.parts.proofs.part_at.Given as goal
 
 abbrev pub invariant-loop-i : goal.invariant-loop-i
 invariant-loop-i l = (l.i ≤ l.k) × (l.start ≤ length l.text) × (parts_from l.e l.k l.text ≡ parts_from l.e (l.k - l.i) (drop l.start l.text))
-
-abbrev pub decreases-loop-i : goal.decreases-loop-i
-decreases-loop-i l = l.k - l.i

@@ -12,15 +12,15 @@ use Rattle.pcm.proofs.linear.Goals as goal
 pub returns-then-samples-octets : goal.returns-then-samples-octets
 returns-then-samples-octets c =
     let a = c.args in
-    linear_refused a.law a.octets.now a.samples.now (omega arith)
+    let refused = linear_refused a.law a.octets.now a.samples.now (omega arith) in
+    record { refusal = refused.0; written = refused.1 }
 
 pub loop-i-preserved : goal.loop-i-preserved
 loop-i-preserved c =
     let a = c.args in
     let h = c.loop-i in (
-      omega arith,
-      simp length-set h.invariant.1,
-      listed_more (sample_at a.law a.octets.now) a.samples.now h.samples h.i _ h.invariant.2 (omega arith)
+      simp length-set h.invariant.0,
+      listed_more (sample_at a.law a.octets.now) a.samples.now h.samples h.i _ h.invariant.1 (omega arith)
           (to_z-of_z {w = w32} {z = c.sample_of.result} (record { sfits = c.sample_of.type_inv }) ∙ c.sample_of.ensures),
     )
 
@@ -30,10 +30,13 @@ returns c =
     let h = c.loop-i in
     let e : h.i ≡ length a.octets.now = omega arith in
     let done = linear_done a.law a.octets.now a.samples.now (omega arith) in
-    (done.0, listed_all (sample_at a.law a.octets.now) a.samples.now h.samples _ (rw e at h.invariant.2) ∙ done.1)
+    record {
+      refusal = done.0;
+      written = listed_all (sample_at a.law a.octets.now) a.samples.now h.samples _ (rw e at h.invariant.1) ∙ done.1;
+    }
 
 pub loop-i-init : goal.loop-i-init
-loop-i-init c = (omega arith, refl, listed_none _ c.args.samples.now)
+loop-i-init c = (refl, listed_none _ c.args.samples.now)
 
 pub shape_of-samples : goal.shape_of-samples
-shape_of-samples c = c.loop-i.invariant.1
+shape_of-samples c = c.loop-i.invariant.0

@@ -1,7 +1,6 @@
 -- `pcm::linear` meets its contract. The loop's invariant: the first i places of `samples` hold the linear values of the first i octets.
 -- Assumes nothing.
 use mathlib.Core.Path.{◌≡◌}
-use Prim.Native.Nat.{◌-◌, ◌≤◌}
 use mathlib.Core.List.{◌++◌}
 use lib.ListN.{length, drop}
 use Rattle.standard.specs.Lists.{list_from}
@@ -10,7 +9,4 @@ use Rattle.pcm.proofs.linear.Given as goal
 
 abbrev pub invariant-loop-i : goal.invariant-loop-i
 invariant-loop-i l =
-    (l.i ≤ length l.octets) × (length l.samples ≡ length l.initial.samples) × (l.samples ≡ list_from (sample_at l.law l.octets) 0 l.i ++ drop l.i l.initial.samples)
-
-abbrev pub decreases-loop-i : goal.decreases-loop-i
-decreases-loop-i l = length l.octets - l.i
+    (length l.samples ≡ length l.initial.samples) × (l.samples ≡ list_from (sample_at l.law l.octets) 0 l.i ++ drop l.i l.initial.samples)

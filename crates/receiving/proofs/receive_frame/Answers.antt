@@ -39,12 +39,12 @@ returns c r s =
     let width = c.width_of-width.ensures in
     let heard = c.hear-heard.ensures r s.legible in
     let good = ap (λ (x : ℕ). eqb x 0) heard.0 in
-    let bits = data_bits_lem r a.law os _ m a.line a.on a.sequence.now _ heard.1 _ control _ width _ c.data_of.ensures in
+    let bits = data_bits_lem r a.receiver.now.law os _ m a.line a.on a.sequence.now _ heard.1 _ control _ width _ c.data_of.ensures in
     let out = c.descramble_past-plain.ensures in
     record {
       mark = heard.0;
       state =
-          received-state r a.law os _ m a.line a.on a.sequence.now _ heard.1 _ control _ width _ _ _ good
+          received-state r a.receiver.now.law os _ m a.line a.on a.sequence.now _ heard.1 _ control _ width _ _ _ good
           (out.1 ∙ ap (λ (bs : List Bool). turned (push_all h bs)) bits)
           (c.bit_of.ensures ∙ sign_is (sign_at os) _ c.signs_in-signs.ensures 5 (omega arith)) c.doubtful_after.ensures
           c.next_place.ensures.0 c.next_done.ensures.0 c.lost_after.ensures
@@ -57,6 +57,6 @@ returns c r s =
       };
       bits =
           c.if_good.ensures
-          ∙ received-bits r a.law os _ m a.line a.on a.sequence.now _ heard.1 _ control _ width _ good _
+          ∙ received-bits r a.receiver.now.law os _ m a.line a.on a.sequence.now _ heard.1 _ control _ width _ good _
           (out.0 ∙ ap (λ (bs : List Bool). number_of (descramble h bs)) bits);
     }

@@ -3,11 +3,11 @@ use native.Mathlib.Omega.{arith}
 use Rattle.rewriting.proofs.Afresh.{trailer-laid}
 use Rattle.rewriting.proofs.put_trailer.Goals as goal
 
-pub returns : goal.returns
-returns c =
+pub returns-clause-lays : goal.returns-clause-lays
+returns-clause-lays c =
     let a = c.args in
-    trailer-laid a.out.now _ _ _ a.body a.count a.last a.g.start a.g.count a.g.byte _
-    c.wide-byte.ensures.value (omega arith)
+    let p = a.writer.now in
+    trailer-laid p.out.now _ _ _ p.spot.to a.count p.spot.before a.form.start a.form.count a.form.byte _ c.from.ensures (omega arith)
     (omega arith)
     c.put_number.ensures
     c.put_number-2.ensures c.put_number-3.ensures

@@ -1,96 +1,75 @@
 -- Broken, missing, or written afresh. Assumes nothing.
-use mathlib.Core.Path.{refl, sym, ap, ◌∙◌}
-use Prim.Native.Nat.{◌+◌}
-use native.Mathlib.Omega.{arith}
-use borrow.Author.Tests.{lt-ltb, le-ltb}
+use mathlib.Core.Path.{◌≡◌, sym, ap, ◌∙◌}
+use mathlib.Core.Bool.{true}
+use denote.Ref.{Bor}
+use Rattle.std.specs.Prelude as std
+use Rattle.std.specs.Prelude.{Err, ok_or}
+use Rattle.standard.specs.declared.Refusal.{Refusal}
+use Rattle.laying.specs.Laying.{given}
+use Rattle.places.specs.declared.Found.{Found}
+use Rattle.places.specs.Finding.{FoundIn}
+use Rattle.settings.specs.Putting.{number_shown}
+use Prim.Native.Nat.{ℕ}
+use mathlib.Core.List.{List}
 use lib.ListN.{length}
-use Rattle.standard.specs.Refusals.{outcome_answer}
-use Rattle.standard.specs.Settings.{back_file}
-use Rattle.standard.specs.Calls.{accepted, back_call, back_refusal, back_length, back_out}
+use Rattle.standard.specs.Refusals.{refusal_answer}
+use Rattle.standard.specs.Settings.{there, is_file, back_file}
+use Rattle.standard.specs.Calls.{BackCall, back_call, back_refusal, back_length, back_out}
+use Rattle.standard.specs.declared.Refusal.TheVariants.{SettingMissing}
+use Rattle.faults.proofs.Faults.{handed_on}
 use Rattle.rewriting.specs.Rewriting.{written_refusal}
-use Rattle.places.proofs.Opening.{inside-first, slice_short}
-use Rattle.settings.proofs.Finding.{there_is}
-use Rattle.settings.proofs.Answers.{refused-writes, same_writes, previous-found, back_is, back-broken, back-missing, back-past}
+use Rattle.settings.proofs.Options.{some_of, none_of, gone, kept}
+use Rattle.settings.proofs.Answers.{refused_keeps, same_writes, previous-shown, back_is, back-first, back-missing, back-past}
 use Rattle.settings.proofs.go_back.Goals as goal
 
-pub returns-then-not-is_file : goal.returns-then-not-is_file
-unfolding back_length back_out
-returns-then-not-is_file c =
+pub returns-in_err-found-clause-refusal : goal.returns-in_err-found-clause-refusal
+returns-in_err-found-clause-refusal c =
     let a = c.args in
-    let call = back_call a.junction a.out.now in
-    let r = c.refused.ensures in
-    let k = back-broken a.file.now call (sym c.is_file.ensures ∙ c.if-not-is_file.true) in
-    refused-writes (back_refusal a.file.now call) (back_file a.file.now a.junction) a.out.now _ _ (ap accepted (sym k))
-    (ap outcome_answer r.0 ∙ k) r.1
+    handed_on {X = ℕ} c.from_residual.result _ c.from_residual.ensures.1
+    ∙ back-first a.file.now (back_call a.junction a.out.now) _ c.in_err-found.ensures.refusal
 
-pub found_in-f-requires : goal.found_in-f-requires
-found_in-f-requires c = (sym c.is_file.ensures ∙ c.if-not-is_file.false, omega arith)
-
-pub returns-then-u-k : goal.returns-then-u-k
-unfolding back_length back_out
-returns-then-u-k c =
+pub returns-in_err-found-clause-written : goal.returns-in_err-found-clause-written
+unfolding back_out
+returns-in_err-found-clause-written c =
     let a = c.args in
-    let f = c.found_in-f in
-    let call = back_call a.junction a.out.now in
-    let r = c.refused-then-u-k.ensures in
-    let v = sym c.is_file.ensures ∙ c.if-not-is_file.false in
-    let n = there_is _ _ _ (previous-found a.file.now a.junction v f.result f.ensures)
-    ∙ le-ltb (f.result.below + 1) f.result.upto c.if-u-k.true in
-    let k = back-missing a.file.now call v n in
-    refused-writes (back_refusal a.file.now call) (back_file a.file.now a.junction) a.out.now _ _ (ap accepted (sym k))
-    (ap outcome_answer r.0 ∙ k) r.1
+    refused_keeps _ _ (back_file a.file.now a.junction) a.out.now
+    (back-first a.file.now (back_call a.junction a.out.now) _ c.in_err-found.ensures.refusal)
 
-pub cp_place-current-requires : goal.cp_place-current-requires
-cp_place-current-requires c =
-    let a = c.args in
-    let f = c.found_in-f in
-    let e = f.ensures in (
-      (λ z. inside-first f.result.version.start a.file.now f.result.entries (f.result.below + 1) e.inner
-          (omega (arith, c.if-u-k.false, e.end_low))),
-      omega (arith, e.front_low, e.few),
-      e.start,
-    )
+-- the previous setting is not there
+missing : (b : Bor (List ℕ)) (c : BackCall) → is_file b.now ≡ true → (r : Found) → FoundIn b c.junction r → (o : std.Option (Bor (List ℕ)))
+    → given o ≡ number_shown r 1 → (x : Refusal) → Err x ≡ ok_or o SettingMissing → refusal_answer x ≡ back_refusal b.now c
+missing b c e r f o h x p =
+    let q = none_of o SettingMissing x p in
+    let m = ap there (sym (h ∙ previous-shown b c.junction e r f)) ∙ gone o q.0 in
+    q.1 ∙ back-missing b.now c e m
 
-pub cp_place-previous-requires : goal.cp_place-previous-requires
-cp_place-previous-requires c =
+pub returns-in_err-previous-clause-refusal : goal.returns-in_err-previous-clause-refusal
+returns-in_err-previous-clause-refusal c =
     let a = c.args in
-    let f = c.found_in-f in
-    let e = f.ensures in (
-      (λ z. inside-first f.result.version.start a.file.now f.result.entries (f.result.below + 1 + 1) e.inner
-          (omega (arith, c.if-u-k.false, e.end_low))),
-      omega (arith, c.if-u-k.false, e.end_low, e.few),
-      e.start,
-    )
+    let f = c.in_ok-found.ensures.found in
+    handed_on {X = ℕ} c.from_residual-in_err-previous.result _ c.from_residual-in_err-previous.ensures.1
+    ∙ missing a.file (back_call a.junction a.out.now) f.0 c.in_ok-found.found f.1 c.setting.result c.setting.ensures.shown _ c.in_err-previous.ensures.value
 
-pub written-requires : goal.written-requires
-written-requires c =
+pub returns-in_err-previous-clause-written : goal.returns-in_err-previous-clause-written
+unfolding back_out
+returns-in_err-previous-clause-written c =
     let a = c.args in
-    let e = c.found_in-f.ensures in
-    let p = c.cp_place-current in
-    let q = c.cp_place-previous in
-    let f = q.ensures.from_le_to in
-    let g = p.ensures.from_le_to in record {
-      n_value = e.inner;
-      n_bound = (e.few, e.start, e.front_low, e.end_low);
-      start_bound = (e.start, e.count);
-      current_len_bound = (
-        slice_short a.file.now q.result.from q.result.to f.0 f.1 f.2,
-        slice_short a.file.now p.result.from p.result.to g.0 g.1 g.2,
-      );
-    }
+    let f = c.in_ok-found.ensures.found in
+    refused_keeps _ (back_refusal a.file.now (back_call a.junction a.out.now)) (back_file a.file.now a.junction) a.out.now
+    (missing a.file (back_call a.junction a.out.now) f.0 c.in_ok-found.found f.1 c.setting.result c.setting.ensures.shown _ c.in_err-previous.ensures.value)
 
 pub returns : goal.returns
 unfolding back_length back_out
 returns c =
     let a = c.args in
-    let f = c.found_in-f in
     let call = back_call a.junction a.out.now in
-    let p = c.cp_place-current in
-    let q = c.cp_place-previous in
-    let v = sym c.is_file.ensures ∙ c.if-not-is_file.false in
-    let l = c.if-u-k.false in
-    let yes = there_is _ _ _ (previous-found a.file.now a.junction v f.result f.ensures)
-    ∙ lt-ltb (f.result.below + 1) f.result.upto l in
-    let t = back_is a.file.now a.junction v f.result f.ensures _ _ l (q.ensures.s_value refl) (p.ensures.s_value refl) in
-    same_writes _ (back_refusal a.file.now call) _ (back_file a.file.now a.junction) a.out.now _ _ _
-    (ap (written_refusal (length a.out.now)) t ∙ back-past a.file.now call v yes) t c.written.ensures
+    let f = c.in_ok-found.ensures.found in
+    let q = kept c.setting.result c.in_ok-previous.previous (some_of c.setting.result SettingMissing _ c.in_ok-previous.ensures.value) in
+    let p = previous-shown a.file a.junction f.0 c.in_ok-found.found f.1 in
+    let t = back_is a.file a.junction f.0 c.in_ok-found.found f.1 c.setting-current.result c.setting-current.ensures.shown
+    c.from.result c.from.ensures c.in_ok-previous.previous (sym q ∙ c.setting.ensures.shown) in
+    let w = c.written.ensures in
+    let yes = ap there (sym (sym q ∙ c.setting.ensures.shown ∙ p)) in
+    let z = same_writes _ (back_refusal a.file.now call) _ (back_file a.file.now a.junction) a.out.now c.written.result c.written.new.out
+    (ap (written_refusal (length a.out.now)) t ∙ back-past a.file.now call f.0 yes) t (w.refusal, w.length, w.written) in
+    record { refusal = z.0; length = z.1; written = z.2 }

@@ -1,53 +1,75 @@
 -- The record's own refusals, then its CP is put. Assumes nothing.
-use mathlib.Core.Path.{refl, ap, ◌∙◌}
-use Prim.Native.Nat.{ℕ}
+use mathlib.Core.Path.{◌≡◌, refl, sym, ap, ◌∙◌}
+use Prim.Native.Nat.{ℕ, ◌+◌, ◌/◌, ◌≤◌}
 use mathlib.Core.List.{List}
 use native.Mathlib.Omega.{arith}
-use lib.ListN.{length}
-use Rattle.standard.specs.Refusals.{outcome_answer}
+use lib.ListN.{length, take}
+use lib.Seq.{length-take-le}
+use Rattle.std.specs.Int.{div_ceil}
+use Rattle.std.specs.Prelude.{Result, Ok}
+use Rattle.standard.specs.First.{bare, first}
+use Rattle.standard.specs.Refusals.{record_tests}
 use Rattle.standard.specs.Settings.{put_file}
-use Rattle.standard.specs.Calls.{put_call, put_refusal, put_writes, put_length, put_out}
+use Rattle.standard.specs.Calls.{write_call, write_bit_count, put_call, put_refusal, put_writes, put_length, put_out}
+use Rattle.standard.specs.declared.Record.{Record}
+use Rattle.standard.specs.declared.Refusal.{Refusal}
+use Rattle.standard.proofs.First.{None}
 use Rattle.standard.proofs.Refusals.{record_numbered}
-use Rattle.standard.proofs.Stages.{refused_not, done_none}
+use Rattle.standard.proofs.Stages.{done_none}
+use Rattle.faults.proofs.Faults.{handed_on}
 use Rattle.settings.specs.Putting.{cp_put_refusal}
-use Rattle.settings.proofs.Answers.{refused-writes, same_writes, put-own, put-past, count_is, cp-is}
+use Rattle.settings.proofs.Answers.{refused_keeps, same_writes, put-own, put-past, never, count_is, cp-is}
 use Rattle.settings.proofs.put.Goals as goal
 
-pub returns-in-Refused : goal.returns-in-Refused
-unfolding put_length put_out
-returns-in-Refused c =
+-- a record of which no test holds
+clean : (r : Record) → bare 0 ≡ first (record_tests r) → None (record_tests r)
+clean r e =
+    let o : Result (Unit {0}) Refusal = Ok tt in
+    done_none o (record_tests r) (record_numbered r) refl e
+
+pub returns-in_err-record_fault-clause-refusal : goal.returns-in_err-record_fault-clause-refusal
+returns-in_err-record_fault-clause-refusal c =
+    let a = c.args in
+    handed_on {X = ℕ} c.from_residual.result _ c.from_residual.ensures.1
+    ∙ put-own a.file.now (put_call a.junction a.r a.out.now) _ c.in_err-record_fault.ensures
+
+pub returns-in_err-record_fault-clause-written : goal.returns-in_err-record_fault-clause-written
+unfolding put_out
+returns-in_err-record_fault-clause-written c =
     let a = c.args in
     let call = put_call a.junction a.r a.out.now in
-    let o = c.record_fault-fault in
-    let r = c.refused.ensures in
-    let k = put-own a.file.now call o.result _ c.in-Refused.is o.ensures in
-    refused-writes (put_refusal a.file.now call) (put_writes a.file.now call) a.out.now _ _
-    (refused_not o.result _ _ c.in-Refused.is k) (ap outcome_answer r.0 ∙ k) r.1
+    refused_keeps _ (put_refusal a.file.now call) (put_writes a.file.now call) a.out.now (put-own a.file.now call _ c.in_err-record_fault.ensures)
 
-pub overflow_add-len : goal.overflow_add-len
-overflow_add-len c =
-    let a = c.args in
-    let o = c.record_fault-fault in
-    let clean = done_none o.result _ (record_numbered _) c.in_default.is o.ensures in
-    omega (arith, (count_is a.r _ refl clean _ c.write_cp-done.ensures.1).1)
+pub returns-in_err-bit_count : goal.returns-in_err-bit_count
+returns-in_err-bit_count c =
+    absurd (never c.args.r _ refl (clean c.args.r c.in_ok-record_fault.ensures) _ c.in_err-bit_count.ensures.refusal)
 
-pub put_cp-requires : goal.put_cp-requires
-put_cp-requires c =
-    let a = c.args in
-    let o = c.record_fault-fault in
-    let clean = done_none o.result _ (record_numbered _) c.in_default.is o.ensures in
-    let n = (count_is a.r _ refl clean _ c.write_cp-done.ensures.1).1 in
-    (omega arith, omega (arith, n), omega (arith, n))
+-- the bytes of its CP fit
+fit : (r : Record) (b : List ℕ) → length b ≡ 122 → bare 0 ≡ first (record_tests r) → (k n : ℕ) → k ≡ write_bit_count (write_call r b)
+    → n ≡ div_ceil k 8 → (n ≡ (k + 7) / 8) × (n ≤ 122)
+fit r b l e k n ek en =
+    let h = (count_is r b l (clean r e) k ek).1 in (omega arith, omega (arith, h))
+
+pub slice_bounds-bytes-end : goal.slice_bounds-bytes-end
+slice_bounds-bytes-end c =
+    let h = fit c.args.r _ refl c.in_ok-record_fault.ensures _ _ c.in_ok-bit_count.ensures.count c.div_ceil.ensures in omega (arith, h.1)
+
+pub slice_bounds-put_cp-end : goal.slice_bounds-put_cp-end
+slice_bounds-put_cp-end c =
+    let h = fit c.args.r _ refl c.in_ok-record_fault.ensures _ _ c.in_ok-bit_count.ensures.count c.div_ceil.ensures in
+    sym (length-take-le _ _ (omega (arith, h.1)))
 
 pub returns : goal.returns
 unfolding put_length put_out
 returns c =
     let a = c.args in
     let call = put_call a.junction a.r a.out.now in
-    let w = c.write_cp-done in
-    let o = c.record_fault-fault in
-    let n = done_none o.result _ (record_numbered _) c.in_default.is o.ensures in
-    let e = cp-is a.r _ refl n _ _ w.ensures.1 w.ensures.2 in
-    same_writes _ (put_refusal a.file.now call) _ (put_writes a.file.now call) a.out.now _ _ _
+    let n = clean a.r c.in_ok-record_fault.ensures in
+    let w = c.in_ok-bit_count.ensures in
+    let h = fit a.r _ refl c.in_ok-record_fault.ensures _ _ w.count c.div_ceil.ensures in
+    let e = ap (λ (k : ℕ). take k c.write_cp.new.cp) h.0 ∙ cp-is a.r _ refl n _ _ w.count w.bytes in
+    let p = c.put_cp.ensures in
+    let z = same_writes _ (put_refusal a.file.now call) _ (put_writes a.file.now call) a.out.now c.put_cp.result c.put_cp.new.out
     (ap (λ (cp : List ℕ). cp_put_refusal a.file.now a.junction cp (length a.out.now)) e ∙ put-past a.file.now call n)
-    (ap (put_file a.file.now a.junction) e) c.put_cp.ensures
+    (ap (put_file a.file.now a.junction) e) (p.refusal, p.length, p.written) in
+    record { refusal = z.0; length = z.1; written = z.2 }

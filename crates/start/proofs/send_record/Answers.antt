@@ -1,7 +1,6 @@
 -- The bytes of the CP have its bits. Assumes nothing.
 use mathlib.Core.Path.{ap, ◌∙◌}
-use Prim.Native.Nat.{◌-◌}
-use lib.ListN.{drop}
+use lib.ListN.{drop, replicate}
 use Rattle.standard.specs.Start.{octets_for, left_by}
 use Rattle.start.proofs.Answers.{cp-bits}
 use Rattle.start.proofs.send_record.Goals as goal
@@ -10,8 +9,6 @@ pub returns : goal.returns
 returns c =
     let sent = c.send_bits in
     let a = c.args in
-    let long = c.cp_length.ensures in
-    let put = c.put_cp.ensures in
-    let later = drop (c.byte_count-bytes.result - 0) a.cp.now in
-    let bits = cp-bits a.r a.law a.state a.octets.now later c.requires.0 long put in
+    let later = drop c.byte_count.result (replicate 122 0) in
+    let bits = cp-bits a.r a.law a.state a.octets.now later c.requires.0 c.cp_length.ensures c.put_cp.ensures in
     (sent.ensures.0 ∙ ap (left_by a.state) bits, sent.ensures.1 ∙ ap (octets_for a.law a.state) bits)

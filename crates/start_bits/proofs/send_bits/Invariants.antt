@@ -1,8 +1,7 @@
 -- `send_bits` meets its contract. The loop's invariant is `Sending`: what is left to send gives the rest. Assumes nothing.
-use Prim.Native.Nat.{ℕ, ◌+◌, ◌-◌}
+use Prim.Native.Nat.{ℕ}
 use mathlib.Core.Bool.{Bool}
 use mathlib.Core.List.{List, ◌++◌}
-use lib.ListN.{length}
 use Rattle.standard.specs.Bits.{bits_in}
 use Rattle.standard.specs.Start.{end_of_cp}
 use Rattle.start_bits.specs.Loops.{Sending}
@@ -15,6 +14,3 @@ sent cp count = bits_in count cp ++ end_of_cp
 abbrev pub invariant-loop-n : goal.invariant-loop-n
 invariant-loop-n l =
     Sending l.law l.state (sent l.cp l.count) l.initial.octets l.octets l.history l.sign l.n
-
-abbrev pub decreases-loop-n : goal.decreases-loop-n
-decreases-loop-n l = length l.initial.octets - l.n

@@ -1,10 +1,6 @@
 -- After i turns they are the bits of the first i frames. Assumes nothing.
-use Prim.Native.Nat.{◌-◌, ◌≤◌}
 use Rattle.streams.proofs.Widths.{Summed}
 use Rattle.streams.proofs.bits_in.Given as goal
 
 abbrev pub invariant-loop-i : goal.invariant-loop-i
-invariant-loop-i l = (l.i ≤ l.frames) × Summed l.r l.control l.place l.bits l.i
-
-abbrev pub decreases-loop-i : goal.decreases-loop-i
-decreases-loop-i l = l.frames - l.i
+invariant-loop-i l = Summed l.r l.control l.place l.bits l.i

@@ -11,18 +11,15 @@ use Rattle.unaligned.proofs.copy_bits.Goals as goal
 pub loop-i-preserved : goal.loop-i-preserved
 loop-i-preserved c =
     let a = c.args in
-    let l = c.loop-i in (
-      omega arith,
-      filled_more _ l.invariant.1 (omega arith)
-          (field-later (bit_at a.bytes.now) a.at _ (8 * l.i) 8 c.byte_at.ensures (omega arith)),
-    )
+    let l = c.loop-i in
+    filled_more _ l.invariant (omega arith) (field-later (bit_at a.bytes.now) a.at _ (8 * l.i) 8 c.byte_at.ensures (omega arith))
 
 pub returns : goal.returns
 unfolding bytes_of
 returns c =
     let l = c.loop-i in
     let e : l.i ≡ length c.args.out.now = omega arith in
-    filled-all (rw e at l.invariant.1)
+    filled-all (rw e at l.invariant)
 
 pub loop-i-init : goal.loop-i-init
-loop-i-init c = (omega arith, filled_none _ _ _ refl)
+loop-i-init c = filled_none _ _ _ refl

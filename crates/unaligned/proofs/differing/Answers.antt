@@ -8,17 +8,17 @@ use Rattle.unaligned.proofs.differing.Goals as goal
 
 pub overflow_add-differ : goal.overflow_add-differ
 overflow_add-differ c =
-    let more = counted_more c.loop-i.invariant.1 c.bit_at.ensures c.bit_at-in-loop-i.ensures in
+    let more = counted_more c.loop-i.invariant c.bit_at.ensures c.bit_at-in-loop-i.ensures in
     omega arith
 
 pub loop-i-preserved : goal.loop-i-preserved
-loop-i-preserved c = (omega arith, counted_more c.loop-i.invariant.1 c.bit_at.ensures c.bit_at-in-loop-i.ensures)
+loop-i-preserved c = counted_more c.loop-i.invariant c.bit_at.ensures c.bit_at-in-loop-i.ensures
 
 pub returns : goal.returns
 returns c =
     let a = c.args in
     let e : c.loop-i.i ≡ a.count = omega arith in
-    c.loop-i.invariant.1.value ∙ ap (differing (bit_at a.a.now) (bit_at a.b.now) a.at) e
+    c.loop-i.invariant.value ∙ ap (differing (bit_at a.a.now) (bit_at a.b.now) a.at) e
 
 pub loop-i-init : goal.loop-i-init
-loop-i-init c = (omega arith, counted_none _ _ _)
+loop-i-init c = counted_none _ _ _

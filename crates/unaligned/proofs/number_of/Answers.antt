@@ -11,7 +11,7 @@ pub overflow_add-number : goal.overflow_add-number
 overflow_add-number c = omega (arith, formed_small c.loop-i.invariant c.requires)
 
 pub loop-i-preserved : goal.loop-i-preserved
-loop-i-preserved c = formed_more c.loop-i.invariant (omega arith) c.wide.ensures.0
+loop-i-preserved c = formed_more c.loop-i.invariant (omega arith) c.from.ensures
 
 pub returns : goal.returns
 returns c =

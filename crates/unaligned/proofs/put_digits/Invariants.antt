@@ -1,12 +1,9 @@
 -- Turn i writes digit i. Assumes nothing.
-use Prim.Native.Nat.{◌+◌, ◌-◌, ◌≤◌}
+use Prim.Native.Nat.{◌+◌}
 use lib.ListN.{length}
 use Rattle.standard.specs.Bits.{weight, bit}
 use Rattle.standard.proofs.Filling.{Filled}
 use Rattle.unaligned.proofs.put_digits.Given as goal
 
 abbrev pub invariant-loop-i : goal.invariant-loop-i
-invariant-loop-i l = (l.i ≤ length l.initial.digits) × Filled (λ k. 48 + weight (bit l.word (k + 2))) (length l.initial.digits) l.digits l.i
-
-abbrev pub decreases-loop-i : goal.decreases-loop-i
-decreases-loop-i l = length l.initial.digits - l.i
+invariant-loop-i l = Filled (λ k. 48 + weight (bit l.word (k + 2))) (length l.initial.digits) l.digits l.i

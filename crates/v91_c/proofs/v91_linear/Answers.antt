@@ -7,4 +7,4 @@ pub returns : goal.returns
 returns c =
     let e = c.linear.ensures in
     let l = c.law_of.ensures in
-    (c.code_of.ensures ∙ ap coded (rw l at e.0), rw l at e.1)
+    (c.code_of.ensures ∙ ap coded (rw l at e.refusal), rw l at e.written)

@@ -11,19 +11,17 @@ use Rattle.coding.proofs.signs.signs_in.Goals as goal
 
 pub loop-i-init : goal.loop-i-init
 unfolding list_from
-loop-i-init c = (omega arith, held_none)
+loop-i-init c = held_none
 
 pub with_top-signs-requires : goal.with_top-signs-requires
-with_top-signs-requires c = (omega arith, c.loop-i.invariant.1.small)
+with_top-signs-requires c = (omega arith, c.loop-i.invariant.small)
 
 pub loop-i-preserved : goal.loop-i-preserved
 loop-i-preserved c =
     let l = c.loop-i in
-    let f = sign_at c.args.octets.now in (
-      omega arith,
-      held_more _ l.invariant.1 c.with_top-signs.ensures
-          (list_more f l.i ∙ ap (λ (t : Bool). list_from f 0 l.i ++ (t ∷ [])) (sym c.sign_of.ensures)),
-    )
+    let f = sign_at c.args.octets.now in
+    held_more _ l.invariant c.with_top-signs.ensures
+    (list_more f l.i ∙ ap (λ (t : Bool). list_from f 0 l.i ++ (t ∷ [])) (sym c.sign_of.ensures))
 
 pub returns : goal.returns
-returns c = let e : c.loop-i.i ≡ 6 = omega arith in rw e at c.loop-i.invariant.1.value
+returns c = let e : c.loop-i.i ≡ 6 = omega arith in rw e at c.loop-i.invariant.value

@@ -1,9 +1,0 @@
--- Line k is run in turn k. Assumes nothing.
-use Prim.Native.Nat.{◌-◌}
-use Rattle.v91.proofs.script.run_lines.Given as goal
-
-abbrev pub invariant-loop-k : goal.invariant-loop-k
-invariant-loop-k l = Unit {0}
-
-abbrev pub decreases-loop-k : goal.decreases-loop-k
-decreases-loop-k l = l.count - l.k
