@@ -9,7 +9,7 @@
 5 facts that stand in the contracts of three functions or more of a crate, three parameters that three functions or more of a crate share
 6 a buffer with a place or a length beside it in a parameter list or a struct, arrays side by side
 7 flags and numbers handed in that choose a step
-8 proof files, their lines, and answers that repeat another's text in the crate
+8 each crate's proof files, their lines, and helpers with a number behind their name
 """
 import collections, glob, os, re, sys
 

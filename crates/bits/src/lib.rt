@@ -190,7 +190,7 @@ pub fn pour(bytes: &mut [u8], p: Pouring, width: usize, value: u64) -> Pouring
     if count < 64 {
         return Pouring {
             to: p.to,
-            count: count,
+            count,
             held: word,
         };
     }
@@ -202,7 +202,7 @@ pub fn pour(bytes: &mut [u8], p: Pouring, width: usize, value: u64) -> Pouring
     }
 }
 
-// Puts the bits that are held, and zeros into the rest of the last byte.
+// Puts the bits that are held, and zeros into the rest of the last byte. By arithmetic, as the definition `bytes_for` has it.
 pub fn pour_out(bytes: &mut [u8], p: Pouring)
     requires { Holds p × (p.to + bytes_for p.count ≤ length bytes.old) }
     ensures { bytes.new ≡ put_field bytes.old (8 * p.to) (8 * bytes_for p.count) p.held }

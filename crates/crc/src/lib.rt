@@ -28,6 +28,7 @@ fn crc_some(register: u16, bits: u16, n: usize) -> u16
 }
 
 // The CRC register after the `count` bits from bit `at` on. A step takes sixteen of them, and the last one what is left, so no range counts it.
+// A count beside the bytes: it counts bits, which no slice does.
 pub fn crc_from(register: u16, bytes: &[u8], at: usize, count: usize) -> u16
     requires { (at ≤ 2 ^ 20) × (count ≤ 2 ^ 20) }
     ensures { result ≡ after crc_step register (list_from (bit_at bytes.now) at count) }

@@ -125,7 +125,7 @@ fn add_masks<const N: usize>(text: &mut Text<N>, r: Record) {
     }
 }
 
-// A flag as a word.
+// A flag as a word. `line` has a line like this one too: a crate below both would name it and say no more.
 fn yes_or_no(flag: bool) -> &'static [u8] {
     if flag { b"yes" } else { b"no" }
 }

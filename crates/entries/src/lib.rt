@@ -31,7 +31,7 @@ pub fn next_at(s: &[u8], at: usize, w: usize) -> usize
 }
 
 // Entries that lie end to end in a file: from which place on, how many, and how many bytes the start in each has.
-// That they lie inside it stays a `requires`: docs/TRACE.md names `count_below` and README.md this crate, so no type may ask it of callers.
+// That they lie inside it and are few stays a `requires`: docs/TRACE.md names `count_below` and README.md this crate, so no type may ask it.
 #[derive(Clone, Copy)]
 pub struct Entries<'a> {
     pub file: &'a [u8],

@@ -51,6 +51,7 @@ fn ending_of(state: LineState) -> usize {
 }
 
 // Writes `count` bytes of the data that begins at bit `at` of the bytes.
+// A place and a count: the place is one of bits, and the bytes handed over lie across those of the buffer.
 fn hand_over(e: Ends<'_>, bytes: &[u8], at: usize, count: usize) -> Result<(), Trouble>
     requires { (at ≤ 8) × (count ≤ 6144) }
 {

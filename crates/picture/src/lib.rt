@@ -10,13 +10,13 @@ use constellation::{Mask, belongs};
 use standard::Law;
 use words::Text;
 
-// What a picture shows: what was asked for but for the ceiling, which is shown in the word that gave it, and what was found.
-// The ceiling goes beside it: a part of a command's words, for which each picture would have a lifetime.
+// What a picture shows: what was asked for, the ceiling in the word that gave it, and what was found.
 #[derive(Clone, Copy)]
-pub struct Shown {
+pub struct Shown<'a> {
     pub k: u32,
     pub law: Law,
     pub spacing: u32,
+    pub ceiling: &'a [u8],
     pub points: u32,
     pub sum: u64,
     pub mask: Mask,
@@ -87,17 +87,17 @@ fn top_of(law: Law, ucodes: &[u8]) -> u32
 }
 
 // Adds what was asked for.
-fn add_asked<const N: usize>(text: &mut Text<N>, s: Shown, ceiling: &[u8]) {
+fn add_asked<const N: usize>(text: &mut Text<N>, s: Shown<'_>) {
     let template: &[u8] = match s.law {
         Law::Mu => b"K #, mu-law, spacing #",
         Law::A => b"K #, A-law, spacing #",
     };
     text.add_values(template, &[s.k as u64, s.spacing as u64]);
-    text.add_name(b", ceiling @", ceiling);
+    text.add_name(b", ceiling @", s.ceiling);
 }
 
 // Adds what was found.
-fn add_found<const N: usize>(text: &mut Text<N>, s: Shown) {
+fn add_found<const N: usize>(text: &mut Text<N>, s: Shown<'_>) {
     text.add_values(b"M #, sum of squares #", &[s.points as u64, s.sum]);
 }
 
@@ -117,13 +117,13 @@ fn add_mask<const N: usize>(text: &mut Text<N>, m: Mask) {
 }
 
 // Adds the picture for text.
-pub fn add_text<const N: usize>(text: &mut Text<N>, s: Shown, ceiling: &[u8]) {
+pub fn add_text<const N: usize>(text: &mut Text<N>, s: Shown<'_>) {
     let mut ucodes = [0u8; 128];
-    rows::add_picture(text, s, ucodes_of(s.mask, &mut ucodes), ceiling);
+    rows::add_picture(text, s, ucodes_of(s.mask, &mut ucodes));
 }
 
 // Adds the picture as an SVG drawing.
-pub fn add_svg<const N: usize>(text: &mut Text<N>, s: Shown, ceiling: &[u8]) {
+pub fn add_svg<const N: usize>(text: &mut Text<N>, s: Shown<'_>) {
     let mut ucodes = [0u8; 128];
-    svg::add_picture(text, s, ucodes_of(s.mask, &mut ucodes), ceiling);
+    svg::add_picture(text, s, ucodes_of(s.mask, &mut ucodes));
 }

@@ -94,8 +94,8 @@ fn add_scale<const N: usize>(text: &mut Text<N>, spacing: u32, top: u32) {
 }
 
 // Adds the three lines that say what is shown.
-fn add_head<const N: usize>(text: &mut Text<N>, s: Shown, ceiling: &[u8]) {
-    add_asked(text, s, ceiling);
+fn add_head<const N: usize>(text: &mut Text<N>, s: Shown<'_>) {
+    add_asked(text, s);
     text.add_values(b"\n", &[]);
     add_found(text, s);
     text.add_values(b"\n", &[]);
@@ -104,17 +104,12 @@ fn add_head<const N: usize>(text: &mut Text<N>, s: Shown, ceiling: &[u8]) {
 }
 
 // Adds the picture of the points with these Ucodes.
-pub(crate) fn add_picture<const N: usize>(
-    text: &mut Text<N>,
-    s: Shown,
-    ucodes: &[u8],
-    ceiling: &[u8],
-) {
+pub(crate) fn add_picture<const N: usize>(text: &mut Text<N>, s: Shown<'_>, ucodes: &[u8]) {
     let Some(first) = ucodes.first() else {
         return;
     };
     let top = top_of(s.law, ucodes);
-    add_head(text, s, ceiling);
+    add_head(text, s);
     add_scale(text, s.spacing, top);
     add_rows(text, s.law, ucodes, top);
     text.add_values(

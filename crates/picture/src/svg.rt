@@ -28,7 +28,7 @@ fn step_of(top: u32) -> u32
 }
 
 // Adds what was found, as two lines of text.
-fn add_lines<const N: usize>(text: &mut Text<N>, s: Shown) {
+fn add_lines<const N: usize>(text: &mut Text<N>, s: Shown<'_>) {
     text.add_values(b"<text x=\"300\" y=\"680\" font-size=\"160\">", &[]);
     add_found(text, s);
     text.add_values(
@@ -40,14 +40,14 @@ fn add_lines<const N: usize>(text: &mut Text<N>, s: Shown) {
 }
 
 // Adds the beginning, with the lines that the picture for text has too.
-fn add_head<const N: usize>(text: &mut Text<N>, s: Shown, ceiling: &[u8]) {
+fn add_head<const N: usize>(text: &mut Text<N>, s: Shown<'_>) {
     let height = 2900 + 200 * (s.points as u64);
     text.add_values(
         b"<svg xmlns=\"http://www.w3.org/2000/svg\" width=\"1000\" height=\"#\" viewBox=\"0 0 10000 #\" font-family=\"sans-serif\" \
         font-size=\"130\">\n<rect width=\"10000\" height=\"#\" fill=\"white\"/>\n<text x=\"300\" y=\"400\" font-size=\"200\">",
         &[height / 10, height, height],
     );
-    add_asked(text, s, ceiling);
+    add_asked(text, s);
     text.add_values(b"</text>\n", &[]);
     add_lines(text, s);
 }
@@ -139,16 +139,11 @@ fn add_rows<const N: usize>(text: &mut Text<N>, law: Law, ucodes: &[u8], spacing
 }
 
 // Adds the picture of the points with these Ucodes.
-pub(crate) fn add_picture<const N: usize>(
-    text: &mut Text<N>,
-    s: Shown,
-    ucodes: &[u8],
-    ceiling: &[u8],
-)
+pub(crate) fn add_picture<const N: usize>(text: &mut Text<N>, s: Shown<'_>, ucodes: &[u8])
     requires { length ucodes.now ≤ 128 }
 {
     let top = top_of(s.law, ucodes);
-    add_head(text, s, ceiling);
+    add_head(text, s);
     add_grid(text, top, 1000 + 200 * (s.points as u64));
     add_strip(text, s.law, ucodes, top);
     add_names(text, s.spacing, top);

@@ -45,7 +45,7 @@ impl NamedFile<'_> {
         Ok(())
     }
 
-    // Saves what the bytes of the file are changed to for a junction, and says what the change is.
+    // Saves what the bytes of the file are changed to for a junction, and says what the change is. `back` is handed on to the sentence.
     fn keep(self, bytes: &[u8], changed: &[u8], junction: u16, back: bool) -> Result<(), Failure> {
         self.save(changed)?;
         let previous = settings::look_up(bytes, junction).ok();
@@ -96,7 +96,7 @@ impl NamedFile<'_> {
 }
 
 // Writes what a CP of so many bits says, in plain words.
-// The pictures of `v91` are written so too, each in a text of its own size: the call handed in as a closure would be as long.
+// The pictures of `v91` are written so too, each in a text of its own size: a bound on a closure that names a const parameter is not covered.
 fn write_words(e: Ends<'_>, r: Record, bit_count: usize) -> Result<(), Failure> {
     let mut text = Text::<8192>::new();
     description::add_record(&mut text, r, bit_count);

@@ -32,6 +32,7 @@ pub fn read_line(text: &mut [u8]) -> Option<usize>
 }
 
 // The value of a hexadecimal digit.
+// By arithmetic: the definition `digit_value` gives every byte a value, and `char::to_digit` would give an option.
 fn value_of(c: u8) -> u8
     ensures { (result ≡ digit_value c) × (result < 16) }
 {

@@ -47,6 +47,7 @@ pub fn copy_bits(bytes: &[u8], at: usize, out: &mut [u8])
 }
 
 // How many of the `count` bits from bit `at` on are not the same in two buffers.
+// A count beside the bytes: it counts bits, which no slice does.
 pub fn differing(a: &[u8], b: &[u8], at: usize, count: usize) -> usize
     requires { at + count ≤ 2 ^ 32 }
     ensures { result ≡ Later·differing (bit_at a.now) (bit_at b.now) at count }

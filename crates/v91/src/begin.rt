@@ -46,7 +46,7 @@ pub(crate) fn sender_state(r: Record, law: Law, start: bool) -> LineState {
 }
 
 // The line state in which a receiver begins that is told no more.
-// `cold` and `start` are words of the command: a closure for each would be longer than the two states.
+// `cold` and `start` are words of the command, here and below: a closure for each would be longer than the two states.
 fn told_state(cold: bool) -> LineState {
     if cold { cold_state() } else { fresh_state() }
 }

@@ -115,17 +115,18 @@ fn refuse_ceiling(e: Ends<'_>, w: Wanted<'_>) -> Failure {
 }
 
 // Writes the picture for text.
-// This and the next each have a text of a size of their own and one call: the call handed in as a closure would be as long.
-fn write_text(e: Ends<'_>, s: Shown, ceiling: &[u8]) -> Result<(), Failure> {
+// This and the next each fill a text of their own size: a closure over it has a bound that names the size, which gets no proof.
+fn write_text(e: Ends<'_>, s: Shown<'_>) -> Result<(), Failure> {
     let mut text = Text::<32768>::new();
-    picture::add_text(&mut text, s, ceiling);
+    picture::add_text(&mut text, s);
     e.write(text.as_slice())
 }
 
 // Writes the picture as an SVG drawing.
-fn write_svg(e: Ends<'_>, s: Shown, ceiling: &[u8]) -> Result<(), Failure> {
+// Its text has a size of its own too: it stands beside `write_text` for the reason given there.
+fn write_svg(e: Ends<'_>, s: Shown<'_>) -> Result<(), Failure> {
     let mut text = Text::<65536>::new();
-    picture::add_svg(&mut text, s, ceiling);
+    picture::add_svg(&mut text, s);
     e.write(text.as_slice())
 }
 
@@ -144,13 +145,14 @@ fn write_plan(e: Ends<'_>, w: Wanted<'_>, p: Planned, form: Form) -> Result<(), 
         k: w.k,
         law: w.law,
         spacing: w.spacing,
+        ceiling: w.said,
         points: p.points,
         sum: p.sum,
         mask: Mask { low, high },
     };
     match form {
-        Form::Text => return write_text(e, shown, w.said),
-        Form::Svg => write_svg(e, shown, w.said)?,
+        Form::Text => return write_text(e, shown),
+        Form::Svg => write_svg(e, shown)?,
         Form::Cp => write_cp(e, w, p.mask)?,
     }
     // The output is a file's where it is not for text, so what was found is said too.

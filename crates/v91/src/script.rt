@@ -53,6 +53,7 @@ fn opened<F: FnOnce(&[u8]) -> Result<File, SystemError>>(
 }
 
 // What a command reads from with a file, or with none.
+// This and the next are one call each: a function over both types would need the case handed in and be no shorter.
 fn source_of<'a>(from: &'a Option<File>, otherwise: Source<'a>) -> Source<'a> {
     from.as_ref().map_or(otherwise, Source::Opened)
 }

@@ -9,9 +9,12 @@ ghost use Rattle.std.specs.Prelude.{◌≡◌, ◌≤◌, length};
 use cases::put_refusal;
 use text::{read_bytes, write_bytes};
 
+// The room of a reply.
+const ROOM: usize = 512;
+
 // Answers a call of the reader: bit count and CP. Where it is refused, zeros stand for the record.
-fn answer_read(call: &[u8], reply: &mut [u8]) -> usize
-    requires { (8 ≤ length call.now) × (107 ≤ length reply.old) }
+fn answer_read(call: &[u8], reply: &mut [u8; ROOM]) -> usize
+    requires { 8 ≤ length call.now }
     ensures { result ≡ 107 }
 {
     let read = cp::read_cp(&call[8..], bits::word_at(call, 0) as usize);
@@ -24,9 +27,9 @@ fn answer_read(call: &[u8], reply: &mut [u8]) -> usize
 }
 
 // Answers a call of the writer: record and buffer; nothing where there is no room.
-fn answer_write(call: &[u8], reply: &mut [u8]) -> usize
+fn answer_write(call: &[u8], reply: &mut [u8; ROOM]) -> usize
     requires { 105 ≤ length call.now }
-    ensures { result ≤ length reply.old }
+    ensures { result ≤ ROOM }
 {
     let (rec, buffer) = call.split_at(105);
     let end = 4 + buffer.len();
@@ -41,9 +44,8 @@ fn answer_write(call: &[u8], reply: &mut [u8]) -> usize
 }
 
 // Answers a call of either kind; nothing where the call is too short or there is no room.
-fn answer_call(call: &[u8], reply: &mut [u8]) -> usize
-    requires { 107 ≤ length reply.old }
-    ensures { result ≤ length reply.old }
+fn answer_call(call: &[u8], reply: &mut [u8; ROOM]) -> usize
+    ensures { result ≤ ROOM }
 {
     if call.len() < 9 {
         return 0;
@@ -59,7 +61,7 @@ fn answer_call(call: &[u8], reply: &mut [u8]) -> usize
 // what the closure asks of the reply and how much of it is made.
 fn main() {
     let mut bytes = [0; 512];
-    let mut reply = [0; 512];
+    let mut reply = [0; ROOM];
     let mut text = [0; 1024];
     for _ in 0..u64::MAX {
         let Some(n) = read_bytes(&mut text, &mut bytes) else {

@@ -12,6 +12,9 @@ use cases::{fill, law_of, put_refusal};
 use constellation::k_of;
 use text::{read_bytes, write_bytes};
 
+// The room of a reply.
+const ROOM: usize = 4096;
+
 // The most frames of a call.
 const MOST_FRAMES: usize = 256;
 
@@ -45,21 +48,19 @@ fn put_changes(k: u32, i: u32, reply: &mut [u8]) -> usize
     requires { 1 ≤ length reply.old }
     ensures { result ≤ length reply.old }
 {
-    reply[0] = (flip::changed_count(k, i) % 256) as u8;
-    let mut end = 1;
-    for p in 0..flip::places_end(k, i) {
-        if flip::changes(k, i, p) && end < reply.len() {
-            reply[end] = (p % 256) as u8;
-            end += 1;
-        }
+    let count = flip::changed_count(k, i);
+    reply[0] = (count % 256) as u8;
+    let places = (0..flip::places_end(k, i)).filter(|p| flip::changes(k, i, *p));
+    for (byte, place) in reply[1..].iter_mut().zip(places) {
+        *byte = (place % 256) as u8;
     }
-    end
+    1 + (count as usize).min(reply.len() - 1)
 }
 
 // Answers a call, as its octets are and with the sign of one flipped; nothing where it is too short or of no kind, has too many frames or
-// not the one with that octet, or there is no room.
-fn answer_call(call: &mut [u8], reply: &mut [u8]) -> usize
-    ensures { result ≤ length reply.old }
+// not the one with that octet.
+fn answer_call(call: &mut [u8], reply: &mut [u8; ROOM]) -> usize
+    ensures { result ≤ ROOM }
 {
     if call.len() < 136 || call[0] != 7 {
         return 0;
@@ -72,9 +73,6 @@ fn answer_call(call: &mut [u8], reply: &mut [u8]) -> usize
     }
     let run = 23 + 7 * frames;
     let end = 2 * run;
-    if reply.len() <= end {
-        return 0;
-    }
     let k = k_of(forms::record_from(&call[1..]));
     put_run(call, frames, &mut reply[0..run]);
     call[hit] ^= 128;
@@ -86,7 +84,7 @@ fn answer_call(call: &mut [u8], reply: &mut [u8]) -> usize
 // what the closure asks of the reply and how much of it is made.
 fn main() {
     let mut bytes = [0; 2048];
-    let mut reply = [0; 4096];
+    let mut reply = [0; ROOM];
     let mut text = [0; 8192];
     for _ in 0..u64::MAX {
         let Some(n) = read_bytes(&mut text[0..4096], &mut bytes) else {

@@ -16,6 +16,9 @@ use cases::{fill, law_of, put_refusal, two};
 use standard::{Law, LineState, Record, Refusal, Said};
 use text::{read_bytes, write_bytes};
 
+// The room of a reply.
+const ROOM: usize = 8192;
+
 // The most marks and the most samples that a call of the receiver and one for samples can ask for.
 const MOST_MARKS: usize = 2048;
 
@@ -45,17 +48,14 @@ fn setup_at(call: &[u8]) -> Setup
 }
 
 // Puts the refusal and the state left.
-fn put_left<T: Drop>(outcome: Result<T, Refusal>, state: LineState, reply: &mut [u8])
-    requires { 23 ≤ length reply.old }
-{
+fn put_left<T: Drop>(outcome: Result<T, Refusal>, state: LineState, reply: &mut [u8; ROOM]) {
     put_refusal(outcome, reply);
     states::state_into(state, &mut reply[2..]);
 }
 
 // Answers a call of the sender, whose octet buffer is filled first; nothing where the call is too short or the reply has no room.
-fn answer_send(call: &[u8], reply: &mut [u8]) -> usize
-    requires { 31 ≤ length reply.old }
-    ensures { result ≤ length reply.old }
+fn answer_send(call: &[u8], reply: &mut [u8; ROOM]) -> usize
+    ensures { result ≤ ROOM }
 {
     if call.len() < 147 {
         return 0;
@@ -89,9 +89,8 @@ fn answer_send(call: &[u8], reply: &mut [u8]) -> usize
 }
 
 // Answers a call of the receiver, whose buffers are filled first; nothing where the call is too short or there is no room.
-fn answer_receive(call: &[u8], reply: &mut [u8]) -> usize
-    requires { 31 ≤ length reply.old }
-    ensures { result ≤ length reply.old }
+fn answer_receive(call: &[u8], reply: &mut [u8; ROOM]) -> usize
+    ensures { result ≤ ROOM }
 {
     if call.len() < 141 {
         return 0;
@@ -145,14 +144,13 @@ fn put_samples(samples: &[i32], reply: &mut [u8])
     }
 }
 
-// Answers a call for linear samples, whose buffer is filled first; nothing where there is no room.
-fn answer_linear(call: &[u8], reply: &mut [u8]) -> usize
+// Answers a call for linear samples, whose buffer is filled first; nothing where it asks for too many.
+fn answer_linear(call: &[u8], reply: &mut [u8; ROOM]) -> usize
     requires { 4 ≤ length call.now }
-    ensures { result ≤ length reply.old }
+    ensures { result ≤ ROOM }
 {
     let count = two(call[2], call[3]);
-    let end = 2 + 4 * count;
-    if MOST_SAMPLES < count || reply.len() < end {
+    if MOST_SAMPLES < count {
         return 0;
     }
     let mut buffer = [0; MOST_SAMPLES];
@@ -160,13 +158,12 @@ fn answer_linear(call: &[u8], reply: &mut [u8]) -> usize
     fill_samples(samples);
     put_refusal(pcm::linear(law_of(call[1]), &call[4..], samples), reply);
     put_samples(samples, &mut reply[2..]);
-    end
+    2 + 4 * count
 }
 
 // Answers a call of any kind, and returns the reply's length; nothing where the call is too short or of no kind.
-fn answer_call(call: &[u8], reply: &mut [u8]) -> usize
-    requires { 31 ≤ length reply.old }
-    ensures { result ≤ length reply.old }
+fn answer_call(call: &[u8], reply: &mut [u8; ROOM]) -> usize
+    ensures { result ≤ ROOM }
 {
     if call.len() < 4 {
         return 0;
@@ -183,7 +180,7 @@ fn answer_call(call: &[u8], reply: &mut [u8]) -> usize
 // what the closure asks of the reply and how much of it is made.
 fn main() {
     let mut bytes = [0; 8192];
-    let mut reply = [0; 8192];
+    let mut reply = [0; ROOM];
     let mut text = [0; 16384];
     for _ in 0..u64::MAX {
         let Some(n) = read_bytes(&mut text, &mut bytes) else {

@@ -12,6 +12,9 @@ use cases::{fill, put_refusal, two};
 use standard::Refusal;
 use text::{read_bytes, write_bytes};
 
+// The room of a reply.
+const ROOM: usize = 131072;
+
 // The number of three bytes.
 fn three(low: u8, middle: u8, high: u8) -> usize
     ensures { result < 16777216 }
@@ -27,17 +30,14 @@ fn junction_of(call: &[u8]) -> u16
 }
 
 // Puts the answer of a put or a going back but for its buffer; where it is refused, the length is 0.
-fn put_written(written: Result<usize, Refusal>, reply: &mut [u8])
-    requires { 107 ≤ length reply.old }
-{
+fn put_written(written: Result<usize, Refusal>, reply: &mut [u8; ROOM]) {
     put_refusal(written, reply);
     bits::put_field(reply, 16, 24, written.unwrap_or(0) as u64);
 }
 
 // Answers a put, whose buffer is filled first; nothing where the call is too short or the reply has no room.
-fn answer_put(call: &[u8], reply: &mut [u8]) -> usize
-    requires { 107 ≤ length reply.old }
-    ensures { result ≤ length reply.old }
+fn answer_put(call: &[u8], reply: &mut [u8; ROOM]) -> usize
+    ensures { result ≤ ROOM }
 {
     if call.len() < 111 {
         return 0;
@@ -57,9 +57,8 @@ fn answer_put(call: &[u8], reply: &mut [u8]) -> usize
 }
 
 // Answers a going back, whose buffer is filled first; nothing where the call is too short or the reply has no room.
-fn answer_back(call: &[u8], reply: &mut [u8]) -> usize
-    requires { 107 ≤ length reply.old }
-    ensures { result ≤ length reply.old }
+fn answer_back(call: &[u8], reply: &mut [u8; ROOM]) -> usize
+    ensures { result ≤ ROOM }
 {
     if call.len() < 6 {
         return 0;
@@ -75,9 +74,8 @@ fn answer_back(call: &[u8], reply: &mut [u8]) -> usize
 }
 
 // Answers a look-up; nothing where the call is too short. Where it is refused, zeros stand for the record.
-fn answer_look(call: &[u8], reply: &mut [u8]) -> usize
-    requires { 107 ≤ length reply.old }
-    ensures { result ≤ length reply.old }
+fn answer_look(call: &[u8], reply: &mut [u8; ROOM]) -> usize
+    ensures { result ≤ ROOM }
 {
     if call.len() < 3 {
         return 0;
@@ -92,9 +90,8 @@ fn answer_look(call: &[u8], reply: &mut [u8]) -> usize
 }
 
 // Answers a call of any kind; nothing where the call is too short or of no kind.
-fn answer_call(call: &[u8], reply: &mut [u8]) -> usize
-    requires { 107 ≤ length reply.old }
-    ensures { result ≤ length reply.old }
+fn answer_call(call: &[u8], reply: &mut [u8; ROOM]) -> usize
+    ensures { result ≤ ROOM }
 {
     match call.first() {
         Some(8) => answer_put(call, reply),
@@ -108,7 +105,7 @@ fn answer_call(call: &[u8], reply: &mut [u8]) -> usize
 // what the closure asks of the reply and how much of it is made.
 fn main() {
     let mut bytes = [0; 131072];
-    let mut reply = [0; 131072];
+    let mut reply = [0; ROOM];
     let mut text = [0; 262144];
     for _ in 0..u64::MAX {
         let Some(n) = read_bytes(&mut text, &mut bytes) else {

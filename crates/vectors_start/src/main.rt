@@ -10,10 +10,12 @@ ghost use Rattle.std.specs.Prelude.{◌≤◌, length};
 use cases::{fill, law_of, put_refusal, two};
 use text::{read_bytes, write_bytes};
 
+// The room of a reply.
+const ROOM: usize = 2048;
+
 // Answers a call of the sender, whose octet buffer is filled first; nothing where the call is too short or the reply has no room.
-fn answer_send(call: &[u8], reply: &mut [u8]) -> usize
-    requires { 25 ≤ length reply.old }
-    ensures { result ≤ length reply.old }
+fn answer_send(call: &[u8], reply: &mut [u8; ROOM]) -> usize
+    ensures { result ≤ ROOM }
 {
     if call.len() < 130 {
         return 0;
@@ -33,9 +35,8 @@ fn answer_send(call: &[u8], reply: &mut [u8]) -> usize
 }
 
 // Answers a call of the finder; nothing where the call is too short.
-fn answer_find(call: &[u8], reply: &mut [u8]) -> usize
-    requires { 25 ≤ length reply.old }
-    ensures { result ≤ length reply.old }
+fn answer_find(call: &[u8], reply: &mut [u8; ROOM]) -> usize
+    ensures { result ≤ ROOM }
 {
     if call.len() < 22 {
         return 0;
@@ -47,9 +48,8 @@ fn answer_find(call: &[u8], reply: &mut [u8]) -> usize
 }
 
 // Answers a call of either kind; nothing where the call is too short or of no kind.
-fn answer_call(call: &[u8], reply: &mut [u8]) -> usize
-    requires { 25 ≤ length reply.old }
-    ensures { result ≤ length reply.old }
+fn answer_call(call: &[u8], reply: &mut [u8; ROOM]) -> usize
+    ensures { result ≤ ROOM }
 {
     match call.first() {
         Some(5) => answer_send(call, reply),
@@ -62,7 +62,7 @@ fn answer_call(call: &[u8], reply: &mut [u8]) -> usize
 // what the closure asks of the reply and how much of it is made.
 fn main() {
     let mut bytes = [0; 2048];
-    let mut reply = [0; 2048];
+    let mut reply = [0; ROOM];
     let mut text = [0; 4096];
     for _ in 0..u64::MAX {
         let Some(n) = read_bytes(&mut text, &mut bytes) else {
