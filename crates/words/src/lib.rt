@@ -5,10 +5,7 @@ mod columns;
 
 ghost use Rattle.std.specs.Prelude.{◌≡◌, cond, [], ◌∷◌, map, ◌-◌, ◌≤◌, eqb, get_or, length, take, replicate};
 ghost use Rattle.words.specs.Message.{shown as Message·shown};
-ghost use Rattle.parts.specs.Parts.{part_at};
 ghost use Rattle.words.specs.Message.{decimal, piece, message, Added};
-
-use parts::nth_part;
 
 // A text of up to N characters, put together piece by piece: `at` is the place behind the last piece. What of a piece has no room is cut off.
 // An array and a place, and no String: the program uses no heap.
@@ -133,14 +130,5 @@ impl<const N: usize> Text<N> {
             self.new.at }
     {
         self.add_message(template, &[0], name);
-    }
-
-    // Adds what template k of a list says with numbers; the first is template 0, and a | ends each.
-    // A number for a template, since docs/TRACE.md names the function and its contract is over `part_at`.
-    pub fn add_choice(&mut self, templates: &[u8], k: usize, values: &[u64])
-        ensures { Added self.old.bytes self.old.at (message (part_at 124 k templates.now) values.now []) self.new.bytes
-            self.new.at }
-    {
-        self.add_values(nth_part(templates, b'|', k), values);
     }
 }
