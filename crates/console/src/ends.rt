@@ -68,7 +68,8 @@ impl Ends<'_> {
 
     // Says a sentence: what a template says with numbers and a name.
     fn say(self, template: &[u8], values: &[u64], name: &[u8]) {
-        let mut text = Text::<8192>::new();
+        let mut room = [0; 8192];
+        let mut text = Text::new(&mut room);
         text.add_message(b"v91: ", values, name);
         text.add_message(template, values, name);
         text.add_message(b"\n", values, name);
@@ -120,7 +121,8 @@ impl Ends<'_> {
 
     // Says what failed, and why: the system's error.
     pub fn fail_system(self, error: SystemError, template: &[u8], name: &[u8]) -> Failure {
-        let mut text = Text::<8192>::new();
+        let mut room = [0; 8192];
+        let mut text = Text::new(&mut room);
         text.add_name(b"v91: ", name);
         text.add_name(template, name);
         error.add_to(&mut text);

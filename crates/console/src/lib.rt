@@ -1,6 +1,8 @@
 // What a program reads, writes and says, and what it says where that fails. What is read and written no contract can tell.
 #![tactic(auto)]
 
+ghost use Rattle.std.specs.Prelude.{◌≡◌, length};
+
 mod ends;
 mod files;
 mod meter;
@@ -15,15 +17,16 @@ pub use trouble::{Trouble, is_over};
 use words::Text;
 
 // Adds argument i and a 0 behind it to the text; the text is full where there is no room.
-fn take_word<const N: usize>(rt: HostRuntime, text: &mut Text<N>, i: usize) {
-    let whole = &mut text.bytes[..];
-    let room = &mut whole[text.at..];
+fn take_word(rt: HostRuntime, text: &mut Text<'_>, i: usize)
+    ensures { length text.new.bytes.now ≡ length text.old.bytes.now }
+{
+    let room = &mut text.bytes[text.at..];
     match rt.arg(i, room) {
         Ok(n) if n < room.len() => {
             room[n] = 0;
             text.at += n + 1;
         }
-        _ => text.at = N,
+        _ => text.at = text.bytes.len(),
     }
 }
 
@@ -32,11 +35,13 @@ fn has_word(rt: HostRuntime, i: usize) -> bool {
     !matches!(rt.arg(i, &mut [0u8; 1]), Err(FillError::NotPresent))
 }
 
-// The words of the command line, a 0 behind each; the text is full where there is no room.
-pub fn take_words<const N: usize>(rt: HostRuntime) -> Text<N> {
-    let mut text = Text::new();
+// The words of the command line, a 0 behind each, in a buffer that is lent; the text is full where there is no room, and no more is fetched.
+pub fn take_words(rt: HostRuntime, room: &mut [u8]) -> Text<'_>
+    ensures { length result.bytes.now ≡ length room.old }
+{
+    let mut text = Text::new(room);
     for i in 1..usize::MAX {
-        if !has_word(rt, i) {
+        if text.at == text.bytes.len() || !has_word(rt, i) {
             break;
         }
         take_word(rt, &mut text, i);

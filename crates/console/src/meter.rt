@@ -51,7 +51,8 @@ impl Meter {
         if !e.shows | (second == self.second) {
             return;
         }
-        let mut text = Text::<128>::new();
+        let mut room = [0; 128];
+        let mut text = Text::new(&mut room);
         text.add_values(
             b"\rv91: #.# MB read, # frame~",
             &[self.bytes / 1_000_000, self.bytes / 100_000 % 10, frames],

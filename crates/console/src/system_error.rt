@@ -96,13 +96,13 @@ impl SystemError {
     // The number that is said of it, where one is.
     fn number(self) -> u64 {
         match self {
-            SystemError::Other(number) => u64::from(number.unsigned_abs()),
+            SystemError::Other(number) => text::magnitude(number),
             _ => 0,
         }
     }
 
     // Adds what is said of it.
-    pub(crate) fn add_to<const N: usize>(self, text: &mut Text<N>) {
+    pub(crate) fn add_to(self, text: &mut Text<'_>) {
         text.add_values(self.reason(), &[self.number()]);
     }
 }

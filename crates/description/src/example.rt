@@ -22,8 +22,9 @@ pub fn example_record() -> Record
 }
 
 // Adds a space and bytes in hexadecimal.
-fn add_hex<const N: usize>(text: &mut Text<N>, bytes: &[u8])
+fn add_hex(text: &mut Text<'_>, bytes: &[u8])
     requires { length bytes.now ≤ 64 }
+    ensures { length text.new.bytes.now ≡ length text.old.bytes.now }
 {
     let mut digits = [0; 128];
     let n = text::to_hex(bytes, &mut digits);
@@ -31,7 +32,9 @@ fn add_hex<const N: usize>(text: &mut Text<N>, bytes: &[u8])
 }
 
 // Adds the CP, and what its reader makes of it.
-fn add_cp<const N: usize>(text: &mut Text<N>) -> Result<(), Refusal> {
+fn add_cp(text: &mut Text<'_>) -> Result<(), Refusal>
+    ensures { length text.new.bytes.now ≡ length text.old.bytes.now }
+{
     let mut bytes = [0; 37];
     let bit_count = cp::write_cp(example_record(), &mut bytes)?;
     let record = cp::read_cp(&bytes, bit_count)?;
@@ -46,7 +49,9 @@ fn add_cp<const N: usize>(text: &mut Text<N>) -> Result<(), Refusal> {
 }
 
 // Adds octets, six a group.
-fn add_groups<const N: usize>(text: &mut Text<N>, octets: &[u8]) {
+fn add_groups(text: &mut Text<'_>, octets: &[u8])
+    ensures { length text.new.bytes.now ≡ length text.old.bytes.now }
+{
     for group in octets.chunks(6) {
         add_hex(text, group);
     }
@@ -78,12 +83,14 @@ fn receive_three(mut state: LineState, octets: &[u8; 18]) -> Result<Received, Re
 
 // Adds a title, three frames of octets and what is received of them from a line state on.
 // The state and the octets go with a text, here and below: a struct of them would be made in `add_run` and taken apart in each.
-fn add_received<const N: usize>(
-    text: &mut Text<N>,
+fn add_received(
+    text: &mut Text<'_>,
     title: &[u8],
     state: LineState,
     octets: &[u8; 18],
-) -> Result<Received, Refusal> {
+) -> Result<Received, Refusal>
+    ensures { length text.new.bytes.now ≡ length text.old.bytes.now }
+{
     text.add_values(title, &[]);
     add_groups(text, octets);
     let received = receive_three(state, octets)?;
@@ -97,12 +104,14 @@ fn add_received<const N: usize>(
 }
 
 // Adds the frames as they come in undamaged.
-fn add_good<const N: usize>(
-    text: &mut Text<N>,
+fn add_good(
+    text: &mut Text<'_>,
     state: LineState,
     octets: &[u8; 18],
     sent: &[u8; 8],
-) -> Result<(), Refusal> {
+) -> Result<(), Refusal>
+    ensures { length text.new.bytes.now ≡ length text.old.bytes.now }
+{
     let received = add_received(
         text,
         b"63 one bits, sent from there on in 3 frames of six PCM octets each, mu-law:\n ",
@@ -120,7 +129,9 @@ fn add_good<const N: usize>(
 }
 
 // Adds what a marked frame 0 does to the bits.
-fn add_doubt<const N: usize>(text: &mut Text<N>, sent: &[u8; 8], received: Received) {
+fn add_doubt(text: &mut Text<'_>, sent: &[u8; 8], received: Received)
+    ensures { length text.new.bytes.now ≡ length text.old.bytes.now }
+{
     let interval = u64::from(received.marks[0]).wrapping_sub(1);
     let doubtful = unaligned::differing(sent, &received.bytes, 21, 24) as u64;
     text.add_values(
@@ -139,12 +150,14 @@ bits 21 to 44, the 24 after it, are doubtful: # of them are not as sent
 }
 
 // Adds the frames with the third octet damaged.
-fn add_damaged<const N: usize>(
-    text: &mut Text<N>,
+fn add_damaged(
+    text: &mut Text<'_>,
     state: LineState,
     octets: &[u8; 18],
     sent: &[u8; 8],
-) -> Result<(), Refusal> {
+) -> Result<(), Refusal>
+    ensures { length text.new.bytes.now ≡ length text.old.bytes.now }
+{
     let mut damaged = *octets;
     damaged[2] = 0x80;
     let received = add_received(
@@ -159,11 +172,9 @@ fn add_damaged<const N: usize>(
 
 // Adds 63 one bits, sent from the line state that was left and received from the one that was found, and received again with one octet
 // damaged.
-fn add_run<const N: usize>(
-    text: &mut Text<N>,
-    mut left: LineState,
-    found: LineState,
-) -> Result<(), Refusal> {
+fn add_run(text: &mut Text<'_>, mut left: LineState, found: LineState) -> Result<(), Refusal>
+    ensures { length text.new.bytes.now ≡ length text.old.bytes.now }
+{
     let sent = [0xff, 0xff, 0xff, 0xff, 0xff, 0xff, 0xff, 0x7f];
     let mut octets = [0; 18];
     codec::send(
@@ -181,7 +192,9 @@ fn add_run<const N: usize>(
 }
 
 // Adds the last 24 octets of the CP and E_s, and the line state found from them.
-fn add_start<const N: usize>(text: &mut Text<N>, octets: &[u8; 306], found: LineState) {
+fn add_start(text: &mut Text<'_>, octets: &[u8; 306], found: LineState)
+    ensures { length text.new.bytes.now ≡ length text.old.bytes.now }
+{
     text.add_values(
         b"Its bits and the twelve zero bits of E_s, sent in # octets, mu-law; the last 24 of them:\n ",
         &[306],
@@ -194,7 +207,9 @@ fn add_start<const N: usize>(text: &mut Text<N>, octets: &[u8; 306], found: Line
 }
 
 // Adds the CP and E_s as they are sent and heard, and the frames after them.
-fn add_line<const N: usize>(text: &mut Text<N>) -> Result<(), Refusal> {
+fn add_line(text: &mut Text<'_>) -> Result<(), Refusal>
+    ensures { length text.new.bytes.now ≡ length text.old.bytes.now }
+{
     let mut left = fresh_state();
     let mut octets = [0; 306];
     start::send_cp(example_record(), Law::Mu, &mut left, &mut octets)?;
@@ -205,13 +220,17 @@ fn add_line<const N: usize>(text: &mut Text<N>) -> Result<(), Refusal> {
 }
 
 // Adds the steps of the example.
-fn add_steps<const N: usize>(text: &mut Text<N>) -> Result<(), Refusal> {
+fn add_steps(text: &mut Text<'_>) -> Result<(), Refusal>
+    ensures { length text.new.bytes.now ≡ length text.old.bytes.now }
+{
     add_cp(text)?;
     add_line(text)
 }
 
 // Adds the example.
-pub fn add_example<const N: usize>(text: &mut Text<N>) {
+pub fn add_example(text: &mut Text<'_>)
+    ensures { length text.new.bytes.now ≡ length text.old.bytes.now }
+{
     // The example's own record is refused nowhere.
     let _ = add_steps(text);
 }

@@ -1,11 +1,15 @@
 // What one flipped sign costs, in plain words.
+ghost use Rattle.std.specs.Prelude.{◌≡◌, length};
+
 use crate::add_rate;
 use constellation::k_of;
 use standard::Record;
 use words::Text;
 
 // Adds the places of the data bits that change.
-fn add_places<const N: usize>(text: &mut Text<N>, k: u32, i: u32) {
+fn add_places(text: &mut Text<'_>, k: u32, i: u32)
+    ensures { length text.new.bytes.now ≡ length text.old.bytes.now }
+{
     for p in 0..flip::places_end(k, i) {
         if flip::changes(k, i, p) {
             text.add_values(b" #", &[p]);
@@ -14,7 +18,9 @@ fn add_places<const N: usize>(text: &mut Text<N>, k: u32, i: u32) {
 }
 
 // Adds what a flipped sign of interval i costs.
-fn add_interval<const N: usize>(text: &mut Text<N>, k: u32, i: u32) {
+fn add_interval(text: &mut Text<'_>, k: u32, i: u32)
+    ensures { length text.new.bytes.now ≡ length text.old.bytes.now }
+{
     text.add_values(
         b"interval #: # bit~:",
         &[i as u64, flip::changed_count(k, i)],
@@ -24,14 +30,18 @@ fn add_interval<const N: usize>(text: &mut Text<N>, k: u32, i: u32) {
 }
 
 // Adds what one of each interval costs.
-fn add_each<const N: usize>(text: &mut Text<N>, k: u32) {
+fn add_each(text: &mut Text<'_>, k: u32)
+    ensures { length text.new.bytes.now ≡ length text.old.bytes.now }
+{
     for i in 0..6 {
         add_interval(text, k, i);
     }
 }
 
 // Adds the rate of a record, and what one flipped sign costs at it.
-pub fn add_flip<const N: usize>(text: &mut Text<N>, r: Record) {
+pub fn add_flip(text: &mut Text<'_>, r: Record)
+    ensures { length text.new.bytes.now ≡ length text.old.bytes.now }
+{
     let k = k_of(r) as u32;
     add_rate(text, r);
     text.add_values(

@@ -4,7 +4,7 @@
 mod example;
 mod flipped;
 
-ghost use Rattle.std.specs.Prelude.{◌≡◌, ◌+◌, ◌*◌, ◌<◌, ◌≤◌, ltb, if◌then◌else◌};
+ghost use Rattle.std.specs.Prelude.{◌≡◌, ◌+◌, ◌*◌, ◌<◌, ◌≤◌, ltb, length, if◌then◌else◌};
 ghost use Rattle.standard.specs.Record.{half_of};
 ghost use Rattle.standard.specs.Constellation.{size_of};
 ghost use Rattle.constellation.specs.Mask.{has};
@@ -16,7 +16,9 @@ use standard::Record;
 use words::Text;
 
 // Adds the rate as V.91 Table 2 prints it, or that this is a cleardown.
-pub fn add_rate_words<const N: usize>(text: &mut Text<N>, r: Record) {
+pub fn add_rate_words(text: &mut Text<'_>, r: Record)
+    ensures { length text.new.bytes.now ≡ length text.old.bytes.now }
+{
     let d = d_of(r) as u64;
     let template: &[u8] = match (r.drn, 4 * d % 3) {
         (0, _) => b"cleardown",
@@ -28,7 +30,9 @@ pub fn add_rate_words<const N: usize>(text: &mut Text<N>, r: Record) {
 }
 
 // Adds the rate, drn, K and D, or that this is a cleardown.
-pub(crate) fn add_rate<const N: usize>(text: &mut Text<N>, r: Record) {
+pub(crate) fn add_rate(text: &mut Text<'_>, r: Record)
+    ensures { length text.new.bytes.now ≡ length text.old.bytes.now }
+{
     if r.drn == 0 {
         add_rate_words(text, r);
         text.add_values(b" (drn 0): no data is sent\n", &[]);
@@ -64,7 +68,9 @@ pub fn points_in(r: Record, m: u8) -> u64
 }
 
 // Adds the six intervals.
-fn add_intervals<const N: usize>(text: &mut Text<N>, r: Record) {
+fn add_intervals(text: &mut Text<'_>, r: Record)
+    ensures { length text.new.bytes.now ≡ length text.old.bytes.now }
+{
     for i in 0..6 {
         let m = r.index[i];
         text.add_values(
@@ -83,8 +89,9 @@ fn run_end(m: Mask, u: u8) -> u8
 }
 
 // Adds the Ucodes from u up to `end`.
-fn add_run<const N: usize>(text: &mut Text<N>, u: u8, end: u8)
+fn add_run(text: &mut Text<'_>, u: u8, end: u8)
     requires { u < end }
+    ensures { length text.new.bytes.now ≡ length text.old.bytes.now }
 {
     let last = end - 1;
     if u == last {
@@ -94,18 +101,24 @@ fn add_run<const N: usize>(text: &mut Text<N>, u: u8, end: u8)
     }
 }
 
-// Adds the runs of Ucodes of a mask: one begins where a Ucode belongs to the mask, and the one before it does not.
-fn add_runs<const N: usize>(text: &mut Text<N>, m: Mask) {
+// Adds the runs of Ucodes of a mask. The Ucode at a run's end is in none, so the next run begins past it.
+fn add_runs(text: &mut Text<'_>, m: Mask)
+    ensures { length text.new.bytes.now ≡ length text.old.bytes.now }
+{
+    let mut past = 0;
     for u in 0..128 {
-        if belongs(m, u) && (u == 0 || !belongs(m, u - 1)) {
-            add_run(text, u, run_end(m, u));
+        if past <= u && belongs(m, u) {
+            let end = run_end(m, u);
+            add_run(text, u, end);
+            past = end + 1;
         }
     }
 }
 
 // Adds a mask.
-fn add_mask<const N: usize>(text: &mut Text<N>, r: Record, m: usize)
+fn add_mask(text: &mut Text<'_>, r: Record, m: usize)
     requires { m < 6 }
+    ensures { length text.new.bytes.now ≡ length text.old.bytes.now }
 {
     let mask = mask_at(r, m);
     if constellation::size_of(mask) == 0 {
@@ -118,7 +131,9 @@ fn add_mask<const N: usize>(text: &mut Text<N>, r: Record, m: usize)
 }
 
 // Adds the masks up to the largest index.
-fn add_masks<const N: usize>(text: &mut Text<N>, r: Record) {
+fn add_masks(text: &mut Text<'_>, r: Record)
+    ensures { length text.new.bytes.now ≡ length text.old.bytes.now }
+{
     let count = constellation::largest_index(r) as usize + 1;
     for m in 0..count.min(6) {
         add_mask(text, r, m);
@@ -131,7 +146,9 @@ fn yes_or_no(flag: bool) -> &'static [u8] {
 }
 
 // Adds the record of a CP sequence and its length.
-pub fn add_record<const N: usize>(text: &mut Text<N>, r: Record, bit_count: usize) {
+pub fn add_record(text: &mut Text<'_>, r: Record, bit_count: usize)
+    ensures { length text.new.bytes.now ≡ length text.old.bytes.now }
+{
     text.add_values(b"CP sequence of # bits\n", &[bit_count as u64]);
     add_rate(text, r);
     text.add_name(b"granted @, ", yes_or_no(r.granted));

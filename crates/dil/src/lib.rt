@@ -1,7 +1,7 @@
 // V.91 7.3: the default digital impairment learning sequence (DIL), by the parameters of Table 5.
 #![tactic(auto)]
 
-ghost use Rattle.std.specs.Prelude.{◌≡◌, ◌<◌, get_or};
+ghost use Rattle.std.specs.Prelude.{◌≡◌, ◌<◌, length, get_or};
 ghost use Rattle.standard.specs.Dil.{segment, training_symbols, table5};
 ghost use Rattle.standard.specs.Refusals.{outcome_answer};
 ghost use Rattle.standard.specs.Calls.{dil_call, dil_refusal, dil_octets};
@@ -47,16 +47,14 @@ pub fn generated_symbol(place: usize) -> u8
     if place % 2 == 0 { 124 - k } else { k }
 }
 
-// The DIL-segment of a training symbol.
-fn segment_of(law: Law, training: u8) -> [u8; SEGMENT_SYMBOLS]
-    requires { training < 128 }
-    ensures { result ≡ segment table5 law training }
+// Writes the DIL-segment of a training symbol where it belongs: an array of its own would be stored and read again at once.
+fn put_segment(law: Law, training: u8, octets: &mut [u8])
+    requires { (training < 128) × (length octets.old ≡ 12) }
+    ensures { octets.new ≡ segment table5 law training }
 {
-    let mut octets = [0; SEGMENT_SYMBOLS];
     for (k, octet) in octets.iter_mut().enumerate() {
         *octet = pcm::octet_of(law, (SIGNS >> k) % 2 == 1, training);
     }
-    octets
 }
 
 // The entry: the whole sequence into `octets`; refusal 17 where it is shorter.
@@ -69,8 +67,8 @@ pub fn send_dil(law: Law, octets: &mut [u8]) -> Result<(), Refusal>
     }
     for n in 0..SEGMENTS {
         let at = n * SEGMENT_SYMBOLS;
-        let segment = segment_of(law, training_symbol(n));
-        octets[at..at + SEGMENT_SYMBOLS].copy_from_slice(&segment);
+        let end = at + SEGMENT_SYMBOLS;
+        put_segment(law, training_symbol(n), &mut octets[at..end]);
     }
     Ok(())
 }

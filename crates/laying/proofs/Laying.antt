@@ -5,7 +5,6 @@ use Prim.Native.Nat.{ℕ, suc, ◌+◌, ◌-◌, ◌/◌, ◌%◌, ◌<◌, ◌�
 use native.Mathlib.Nat.{add_assoc, add-zero}
 use native.Mathlib.Omega.{arith}
 use native.Mathlib.Numerals.{add-one}
-use borrow.Rule.Slice.PartMut.{put_mid}
 use lib.ListN.{length, get_or, take, drop, set, take-append-drop, length-drop, length-append}
 use lib.Seq.{drop-drop, drop_at, take_at, take_all, length-take-le, paste, paste-zero, paste-suc, length-paste, get_or-drop}
 use Rattle.standard.specs.Settings.{little, entry_at, entry_bytes}
@@ -44,12 +43,6 @@ laid-laid d x y at h =
     ap₂ (λ (a b : List ℕ). a ++ (y ++ b)) t (r ∙ ap (λ (m : ℕ). drop m d) k)
     ∙ append_assoc (take at d) x (y ++ drop (at + length (x ++ y)) d)
     ∙ ap (λ (a : List ℕ). take at d ++ a) (sym (append_assoc x y (drop (at + length (x ++ y)) d)))
-
--- what a copy into a part of the buffer leaves
-pub mid_laid : (d ys zs : List ℕ) (a k : ℕ) → ys ≡ zs → length zs ≡ k → put_mid a k d ys ≡ laid d a zs
-unfolding laid
-mid_laid d ys zs a k e l =
-    ap₂ (λ (y r : List ℕ). take a d ++ (y ++ r)) e (drop-drop k a d ∙ ap (λ (m : ℕ). drop (a + m) d) (sym l))
 
 -- what a loop over its places leaves
 paste_laid : (d x : List ℕ) (at n : ℕ) → length x ≡ n → paste d at x n ≡ laid d at x

@@ -22,6 +22,17 @@ pub fn put_number(out: &mut [u8], to: usize, v: usize, w: usize)
     }
 }
 
+// Copies bytes, one after the other: `copy_from_slice` becomes a call of `memmove` where the length is known when it runs, and the archive
+// for C is to need no function from outside but `memset`.
+fn copy_bytes(out: &mut [u8], to: usize, bytes: &[u8])
+    requires { to + length bytes.now ≤ length out.old }
+    ensures { out.new ≡ laid out.old to bytes.now }
+{
+    for (i, byte) in bytes.iter().enumerate() {
+        out[to + i] = *byte;
+    }
+}
+
 // Where the next entry goes, and where the one before it starts.
 #[derive(Clone, Copy)]
 pub struct Spot {
@@ -50,7 +61,7 @@ impl Writer<'_> {
         put_number(self.out, to, junction, 2);
         put_number(self.out, to + 2, usize::from(kind), 1);
         put_number(self.out, to + 3, len, 1);
-        self.out[to + 4..to + 4 + len].copy_from_slice(cp);
+        copy_bytes(self.out, to + 4, cp);
         put_number(self.out, to + 4 + len, self.spot.before, self.start);
         self.spot = Spot {
             to: to + 4 + len + self.start,
@@ -79,7 +90,7 @@ impl Writer<'_> {
     {
         let len = 4 + usize::from(file[at + 3]);
         let to = self.spot.to;
-        self.out[to..to + len].copy_from_slice(&file[at..at + len]);
+        copy_bytes(self.out, to, &file[at..at + len]);
         put_number(self.out, to + len, self.spot.before, self.start);
         self.spot = Spot {
             to: to + len + self.start,

@@ -7,11 +7,11 @@ use standard::Law;
 use words::Text;
 
 // Adds a sample and a newline.
-fn add_sample(text: &mut Text<8192>, sample: i32) {
+fn add_sample(text: &mut Text<'_>, sample: i32) {
     if sample < 0 {
         text.add_values(b"-", &[]);
     }
-    text.add_values(b"#\n", &[u64::from(sample.unsigned_abs())]);
+    text.add_values(b"#\n", &[text::magnitude(sample)]);
 }
 
 // Writes the samples of up to 1,024 octets.
@@ -21,7 +21,8 @@ fn write_samples(e: Ends<'_>, law: Law, octets: &[u8]) -> Result<(), Trouble>
     let mut samples = [0i32; 1024];
     // There is room for a sample of each octet, so it is not refused.
     let _ = pcm::linear(law, octets, &mut samples);
-    let mut text = Text::new();
+    let mut room = [0; 8192];
+    let mut text = Text::new(&mut room);
     for sample in &samples[..octets.len()] {
         add_sample(&mut text, *sample);
     }

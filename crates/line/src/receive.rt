@@ -191,6 +191,33 @@ fn refused(state: LineState, wanted: u64) -> Received
     }
 }
 
+// A stream that begins in a line state: no octet and no bit waits.
+fn begun(
+    e: Ends<'_>,
+    r: Record,
+    law: Law,
+    control: bool,
+    state: LineState,
+    wanted: u64,
+) -> Receiver<'_>
+    requires { r.drn ≤ 28 }
+    ensures { (result.waiting ≡ 0) × (result.held ≡ 0) }
+{
+    Receiver {
+        e,
+        r,
+        law,
+        control,
+        state,
+        waiting: 0,
+        last: 0,
+        held: 0,
+        told: Told::begun(e.rt),
+        wanted,
+        octets: [0; 6144],
+    }
+}
+
 // Receives the input to the output, frame after frame from a line state on, up to so many bytes of data.
 pub fn receive_stream(
     e: Ends<'_>,
@@ -205,19 +232,7 @@ pub fn receive_stream(
     if 28 < r.drn {
         return refused(state, wanted);
     }
-    let mut receiver = Receiver {
-        e,
-        r,
-        law,
-        control,
-        state,
-        waiting: 0,
-        last: 0,
-        held: 0,
-        told: Told::begun(e.rt),
-        wanted,
-        octets: [0; 6144],
-    };
+    let mut receiver = begun(e, r, law, control, state, wanted);
     if wanted == 0 {
         return receiver.finish(Ok(()));
     }

@@ -18,7 +18,8 @@ pub(crate) struct Told {
 
 // Says the run of marked frames that ends with the frames so far; `after` tells whether a good frame follows.
 fn say_run(e: Ends<'_>, p: Report, after: bool) {
-    let mut text = Text::<256>::new();
+    let mut room = [0; 256];
+    let mut text = Text::new(&mut room);
     let last = wrapping_sub_u64(p.frames, 1);
     if p.first == last {
         text.add_values(b"v91: frame #: ", &[last]);
@@ -49,7 +50,8 @@ fn yes_or_no(asked: bool) -> &'static [u8] {
 fn say_heard(e: Ends<'_>, frame: u64, word: u64) {
     let mut digits = [0u8; 54];
     put_digits(word, &mut digits);
-    let mut text = Text::<256>::new();
+    let mut room = [0; 256];
+    let mut text = Text::new(&mut room);
     text.add_values(b"v91: frame #: control sequence heard: ", &[frame]);
     text.add_name(b"cleardown @, ", yes_or_no(word % 2 == 1));
     text.add_name(b"retrain @, ", yes_or_no(word / 2 % 2 == 1));

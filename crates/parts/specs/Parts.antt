@@ -1,7 +1,9 @@
 -- A text in parts, each of which ends with a character of its own: the words of a command, the lines of a table. Assumes nothing.
 use Rattle.std.specs.Prelude.{ℕ, zero, suc, ◌+◌, ◌*◌, ◌-◌, Bool, cond, ◌&&◌, List, [], ◌∷◌, map, eqb, ltb, leb, length, Option, Some, None}
+use Rattle.std.specs.Borrow.{Bor}
 use Rattle.std.specs.Char.{to_ascii_lowercase}
-use Rattle.std.specs.List.{before_first, after_first, count_by, list_all, zip}
+use Rattle.std.specs.List.{before_first, after_first, count_by, find, list_all, zip}
+use Rattle.std.specs.Option.{option_map}
 
 -- the characters before the first one that is e, and those after it
 abbrev pub before : ℕ → List ℕ → List ℕ
@@ -39,6 +41,10 @@ which_from e text word k (suc n) = cond (same (part_at e k text) word) (suc k) (
 -- of all its parts, for a word in small letters or capitals
 abbrev pub which : ℕ → List ℕ → List ℕ → ℕ
 which e text word = which_from e text (map small word) 0 (part_count e text)
+
+-- what a table of names, each with a value, has for a word in small letters or capitals: the value of the first row whose name is the word
+abbrev pub named : {T : Type 0} → List (Bor (List ℕ) × T) → List ℕ → Option T
+named table word = option_map (λ row. row.1) (find (λ row. same row.0.now (map small word)) table)
 
 -- a digit: '0' is 48, and '9' is 57
 abbrev pub is_digit : ℕ → Bool

@@ -4,7 +4,7 @@
 ghost use Rattle.std.specs.Prelude.{◌≡◌, true, map, ◌+◌, ◌-◌, ◌≤◌, eqb, length, take, drop, MatchOption};
 ghost use Rattle.std.specs.List.{position_or_len};
 ghost use Rattle.parts.specs.Parts.{small, same as Parts·same, which as Parts·which};
-ghost use Rattle.parts.specs.Parts.{before, past, parts_from, part_at, part_count, all_digits, value_from, number_in};
+ghost use Rattle.parts.specs.Parts.{before, past, parts_from, part_at, part_count, named, all_digits, value_from, number_in};
 
 use std::ops::Range;
 
@@ -72,6 +72,13 @@ pub fn which(text: &[u8], e: u8, word: &[u8]) -> Option<usize>
         }
     }
     None
+}
+
+// What a table has for a word in small letters or capitals: that of the first row whose name is the word; nothing where no name is.
+pub fn named<T: Copy>(table: &[(&[u8], T)], word: &[u8]) -> Option<T>
+    ensures { result ≡ named table.now word.now }
+{
+    table.iter().find(|row| same(row.0, word)).map(|row| row.1)
 }
 
 // Whether every character is a digit.

@@ -87,7 +87,9 @@ fn top_of(law: Law, ucodes: &[u8]) -> u32
 }
 
 // Adds what was asked for.
-fn add_asked<const N: usize>(text: &mut Text<N>, s: Shown<'_>) {
+fn add_asked(text: &mut Text<'_>, s: Shown<'_>)
+    ensures { length text.new.bytes.now ≡ length text.old.bytes.now }
+{
     let template: &[u8] = match s.law {
         Law::Mu => b"K #, mu-law, spacing #",
         Law::A => b"K #, A-law, spacing #",
@@ -97,19 +99,25 @@ fn add_asked<const N: usize>(text: &mut Text<N>, s: Shown<'_>) {
 }
 
 // Adds what was found.
-fn add_found<const N: usize>(text: &mut Text<N>, s: Shown<'_>) {
+fn add_found(text: &mut Text<'_>, s: Shown<'_>)
+    ensures { length text.new.bytes.now ≡ length text.old.bytes.now }
+{
     text.add_values(b"M #, sum of squares #", &[s.points as u64, s.sum]);
 }
 
 // Adds half of a mask in 16 hexadecimal digits.
-fn add_half<const N: usize>(text: &mut Text<N>, half: u64) {
+fn add_half(text: &mut Text<'_>, half: u64)
+    ensures { length text.new.bytes.now ≡ length text.old.bytes.now }
+{
     let mut digits = [0u8; 16];
     let n = io::hex(half, 16, &mut digits);
     text.add_name(b"@", &digits[..n]);
 }
 
 // Adds the mask.
-fn add_mask<const N: usize>(text: &mut Text<N>, m: Mask) {
+fn add_mask(text: &mut Text<'_>, m: Mask)
+    ensures { length text.new.bytes.now ≡ length text.old.bytes.now }
+{
     text.add_values(b"mask ", &[]);
     add_half(text, m.high);
     add_half(text, m.low);
@@ -117,13 +125,17 @@ fn add_mask<const N: usize>(text: &mut Text<N>, m: Mask) {
 }
 
 // Adds the picture for text.
-pub fn add_text<const N: usize>(text: &mut Text<N>, s: Shown<'_>) {
+pub fn add_text(text: &mut Text<'_>, s: Shown<'_>)
+    ensures { length text.new.bytes.now ≡ length text.old.bytes.now }
+{
     let mut ucodes = [0u8; 128];
     rows::add_picture(text, s, ucodes_of(s.mask, &mut ucodes));
 }
 
 // Adds the picture as an SVG drawing.
-pub fn add_svg<const N: usize>(text: &mut Text<N>, s: Shown<'_>) {
+pub fn add_svg(text: &mut Text<'_>, s: Shown<'_>)
+    ensures { length text.new.bytes.now ≡ length text.old.bytes.now }
+{
     let mut ucodes = [0u8; 128];
     svg::add_picture(text, s, ucodes_of(s.mask, &mut ucodes));
 }

@@ -1,4 +1,6 @@
 // The picture for text: a row for each point, drawn to scale along the line of linear values.
+ghost use Rattle.std.specs.Prelude.{◌≡◌, length};
+
 use crate::{Point, Shown, add_asked, add_found, add_mask, gap_of, point_at, top_of};
 use standard::Law;
 use words::Text;
@@ -40,7 +42,9 @@ fn drawn(s: Span, j: u64) -> u8 {
 }
 
 // Adds a line, column by column.
-fn add_span<const N: usize>(text: &mut Text<N>, s: Span) {
+fn add_span(text: &mut Text<'_>, s: Span)
+    ensures { length text.new.bytes.now ≡ length text.old.bytes.now }
+{
     for j in 0..s.to {
         text.add_name(b"@", &[drawn(s, j)]);
     }
@@ -48,21 +52,27 @@ fn add_span<const N: usize>(text: &mut Text<N>, s: Span) {
 }
 
 // Adds the numbers of a point.
-fn add_point<const N: usize>(text: &mut Text<N>, p: Point) {
+fn add_point(text: &mut Text<'_>, p: Point)
+    ensures { length text.new.bytes.now ≡ length text.old.bytes.now }
+{
     text.add_right(5, p.ucode as u64);
     text.add_right(8, p.value as u64);
     text.add_right(7, gap_of(p));
 }
 
 // Adds two spaces, a line and what a template says.
-fn add_drawn<const N: usize>(text: &mut Text<N>, s: Span, template: &[u8]) {
+fn add_drawn(text: &mut Text<'_>, s: Span, template: &[u8])
+    ensures { length text.new.bytes.now ≡ length text.old.bytes.now }
+{
     text.add_values(b"  ", &[]);
     add_span(text, s);
     text.add_values(template, &[]);
 }
 
 // Adds the row of a point.
-fn add_row<const N: usize>(text: &mut Text<N>, p: Point, top: u32) {
+fn add_row(text: &mut Text<'_>, p: Point, top: u32)
+    ensures { length text.new.bytes.now ≡ length text.old.bytes.now }
+{
     add_point(text, p);
     let span = Span {
         from: p.before.map(|value| column_of(value, top)),
@@ -73,14 +83,18 @@ fn add_row<const N: usize>(text: &mut Text<N>, p: Point, top: u32) {
 }
 
 // Adds the rows of all points.
-fn add_rows<const N: usize>(text: &mut Text<N>, law: Law, ucodes: &[u8], top: u32) {
+fn add_rows(text: &mut Text<'_>, law: Law, ucodes: &[u8], top: u32)
+    ensures { length text.new.bytes.now ≡ length text.old.bytes.now }
+{
     for n in 0..ucodes.len() {
         add_row(text, point_at(law, ucodes, n), top);
     }
 }
 
 // Adds the scale: the columns' names with 0 and the largest value, and the spacing.
-fn add_scale<const N: usize>(text: &mut Text<N>, spacing: u32, top: u32) {
+fn add_scale(text: &mut Text<'_>, spacing: u32, top: u32)
+    ensures { length text.new.bytes.now ≡ length text.old.bytes.now }
+{
     text.add_values(b"Ucode  linear    gap  0", &[]);
     text.add_right(56, top as u64);
     text.add_values(b"\n", &[]);
@@ -94,7 +108,9 @@ fn add_scale<const N: usize>(text: &mut Text<N>, spacing: u32, top: u32) {
 }
 
 // Adds the three lines that say what is shown.
-fn add_head<const N: usize>(text: &mut Text<N>, s: Shown<'_>) {
+fn add_head(text: &mut Text<'_>, s: Shown<'_>)
+    ensures { length text.new.bytes.now ≡ length text.old.bytes.now }
+{
     add_asked(text, s);
     text.add_values(b"\n", &[]);
     add_found(text, s);
@@ -104,7 +120,9 @@ fn add_head<const N: usize>(text: &mut Text<N>, s: Shown<'_>) {
 }
 
 // Adds the picture of the points with these Ucodes.
-pub(crate) fn add_picture<const N: usize>(text: &mut Text<N>, s: Shown<'_>, ucodes: &[u8]) {
+pub(crate) fn add_picture(text: &mut Text<'_>, s: Shown<'_>, ucodes: &[u8])
+    ensures { length text.new.bytes.now ≡ length text.old.bytes.now }
+{
     let Some(first) = ucodes.first() else {
         return;
     };

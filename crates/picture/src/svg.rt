@@ -1,5 +1,5 @@
 // The picture as an SVG drawing: the points of both signs on one line, and a row for each. Lengths are tenths of a unit.
-ghost use Rattle.std.specs.Prelude.{◌^◌, ◌<◌, ◌≤◌, length};
+ghost use Rattle.std.specs.Prelude.{◌≡◌, ◌^◌, ◌<◌, ◌≤◌, length};
 
 use crate::{Point, Shown, add_asked, add_found, add_mask, gap_of, point_at, top_of, value_of};
 use standard::Law;
@@ -28,7 +28,9 @@ fn step_of(top: u32) -> u32
 }
 
 // Adds what was found, as two lines of text.
-fn add_lines<const N: usize>(text: &mut Text<N>, s: Shown<'_>) {
+fn add_lines(text: &mut Text<'_>, s: Shown<'_>)
+    ensures { length text.new.bytes.now ≡ length text.old.bytes.now }
+{
     text.add_values(b"<text x=\"300\" y=\"680\" font-size=\"160\">", &[]);
     add_found(text, s);
     text.add_values(
@@ -40,7 +42,9 @@ fn add_lines<const N: usize>(text: &mut Text<N>, s: Shown<'_>) {
 }
 
 // Adds the beginning, with the lines that the picture for text has too.
-fn add_head<const N: usize>(text: &mut Text<N>, s: Shown<'_>) {
+fn add_head(text: &mut Text<'_>, s: Shown<'_>)
+    ensures { length text.new.bytes.now ≡ length text.old.bytes.now }
+{
     let height = 2900 + 200 * (s.points as u64);
     text.add_values(
         b"<svg xmlns=\"http://www.w3.org/2000/svg\" width=\"1000\" height=\"#\" viewBox=\"0 0 10000 #\" font-family=\"sans-serif\" \
@@ -53,8 +57,9 @@ fn add_head<const N: usize>(text: &mut Text<N>, s: Shown<'_>) {
 }
 
 // Adds the grid's lines at a value and its negative, with their names above and below.
-fn add_line<const N: usize>(text: &mut Text<N>, value: u32, x: u64, bottom: u64)
+fn add_line(text: &mut Text<'_>, value: u32, x: u64, bottom: u64)
     requires { bottom < 2 ^ 60 }
+    ensures { length text.new.bytes.now ≡ length text.old.bytes.now }
 {
     let v = value as u64;
     let low = bottom + 200;
@@ -66,8 +71,9 @@ fn add_line<const N: usize>(text: &mut Text<N>, value: u32, x: u64, bottom: u64)
 }
 
 // Adds the grid, to the bottom given.
-fn add_grid<const N: usize>(text: &mut Text<N>, top: u32, bottom: u64)
+fn add_grid(text: &mut Text<'_>, top: u32, bottom: u64)
     requires { (top < 2 ^ 15) × (bottom < 2 ^ 60) }
+    ensures { length text.new.bytes.now ≡ length text.old.bytes.now }
 {
     text.add_values(
         b"<g transform=\"translate(5800 1400)\" text-anchor=\"middle\">\n<path d=\"M0 0V#\" stroke=\"silver\" stroke-width=\"8\"/>\
@@ -82,7 +88,9 @@ fn add_grid<const N: usize>(text: &mut Text<N>, top: u32, bottom: u64)
 }
 
 // Adds all points on one line.
-fn add_strip<const N: usize>(text: &mut Text<N>, law: Law, ucodes: &[u8], top: u32) {
+fn add_strip(text: &mut Text<'_>, law: Law, ucodes: &[u8], top: u32)
+    ensures { length text.new.bytes.now ≡ length text.old.bytes.now }
+{
     text.add_values(
         b"<g transform=\"translate(5800 1700)\" stroke=\"navy\" stroke-width=\"20\">\n\
         <path d=\"M-3900 0H3900\" stroke=\"black\" stroke-width=\"10\"/>\n",
@@ -96,7 +104,9 @@ fn add_strip<const N: usize>(text: &mut Text<N>, law: Law, ucodes: &[u8], top: u
 }
 
 // Adds the names of the rows' columns, and the spacing about 0.
-fn add_names<const N: usize>(text: &mut Text<N>, spacing: u32, top: u32) {
+fn add_names(text: &mut Text<'_>, spacing: u32, top: u32)
+    ensures { length text.new.bytes.now ≡ length text.old.bytes.now }
+{
     let width = length_of(spacing, top);
     let half = width / 2;
     text.add_values(
@@ -109,8 +119,9 @@ fn add_names<const N: usize>(text: &mut Text<N>, spacing: u32, top: u32) {
 
 // Adds the row of a point: its numbers, the spacing from the point before it, and the point, with both signs. Before the first the spacing
 // reaches as far to either side of 0.
-fn add_row<const N: usize>(text: &mut Text<N>, p: Point, spacing: u64, top: u32)
+fn add_row(text: &mut Text<'_>, p: Point, spacing: u64, top: u32)
     requires { p.number < 2 ^ 32 }
+    ensures { length text.new.bytes.now ≡ length text.old.bytes.now }
 {
     let y = 2450 + 200 * (p.number as u64);
     let (from, width) = match p.before {
@@ -130,8 +141,9 @@ fn add_row<const N: usize>(text: &mut Text<N>, p: Point, spacing: u64, top: u32)
 }
 
 // Adds the rows of all points.
-fn add_rows<const N: usize>(text: &mut Text<N>, law: Law, ucodes: &[u8], spacing: u64, top: u32)
+fn add_rows(text: &mut Text<'_>, law: Law, ucodes: &[u8], spacing: u64, top: u32)
     requires { length ucodes.now ≤ 128 }
+    ensures { length text.new.bytes.now ≡ length text.old.bytes.now }
 {
     for n in 0..ucodes.len() {
         add_row(text, point_at(law, ucodes, n), spacing, top);
@@ -139,8 +151,9 @@ fn add_rows<const N: usize>(text: &mut Text<N>, law: Law, ucodes: &[u8], spacing
 }
 
 // Adds the picture of the points with these Ucodes.
-pub(crate) fn add_picture<const N: usize>(text: &mut Text<N>, s: Shown<'_>, ucodes: &[u8])
+pub(crate) fn add_picture(text: &mut Text<'_>, s: Shown<'_>, ucodes: &[u8])
     requires { length ucodes.now ≤ 128 }
+    ensures { length text.new.bytes.now ≡ length text.old.bytes.now }
 {
     let top = top_of(s.law, ucodes);
     add_head(text, s);

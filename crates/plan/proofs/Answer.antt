@@ -1,18 +1,22 @@
 -- What the planner answers, by what came of the choice. Assumes nothing.
-use mathlib.Core.Path.{◌≡◌, ap, ◌∙◌}
+use mathlib.Core.Path.{◌≡◌, refl, ap, ◌∙◌}
 use Prim.Native.Nat.{ℕ, ◌+◌, ◌≤◌, ◌<◌}
 use mathlib.Core.Bool.{true, false}
 use mathlib.Core.List.{[], ◌∷◌}
 use native.Mathlib.Omega.{arith}
 use borrow.Author.Tests.{lt-ltb, le-ltb}
-use Rattle.standard.specs.Lists.{list_from}
+use Rattle.std.specs.Prelude.{Err}
+use Rattle.standard.specs.Lists.{list_from, list_where}
 use Rattle.standard.specs.First.{bare, first}
 use Rattle.standard.specs.Bits.{field}
 use Rattle.standard.specs.Constellation.{size_of}
-use Rattle.standard.specs.Plan.{Choice, points_for, sum_of, lowest_mask}
-use Rattle.standard.specs.Refusals.{rate_or_spacing_outside, no_mask, sum_exceeds_ceiling, plan_tests}
-use Rattle.standard.specs.Calls.{PlanCall, plan_call, plan_refusal, plan_points, plan_mask, plan_halves, plan_sum}
+use Rattle.standard.specs.Plan.{Choice, points_for, linear_values, sum_of_squares, sum_of, lowest_mask}
+use Rattle.standard.specs.Refusals.{refusal_answer, rate_or_spacing_outside, no_mask, sum_exceeds_ceiling, plan_tests}
+use Rattle.standard.specs.Calls.{PlanCall, accepted, plan_call, plan_refusal, plan_points, plan_mask, plan_halves, plan_sum}
 use Rattle.standard.specs.declared.Law.{Law}
+use Rattle.standard.specs.declared.Planned.{Planned}
+use Rattle.standard.specs.declared.Refusal.{Refusal}
+use Rattle.standard.proofs.Stages.{refused_not}
 use Rattle.standard.proofs.Plan.{size-wanted, accepted-mask}
 use Rattle.choosing.specs.Choosing.{Before}
 use Rattle.choosing.specs.declared.Chosen.{Chosen}
@@ -20,6 +24,16 @@ use Rattle.choosing.specs.declared.Chosen.{Chosen}
 module _ (k : ℕ) (l : Law) (d ceiling : ℕ) where
   abbrev call : PlanCall
   call = plan_call k l d ceiling
+
+  -- nothing stands beside a call that is not accepted
+  pub none_given : accepted (plan_refusal call) ≡ false → (0 ≡ plan_points call) × (0 ∷ 0 ∷ [] ≡ plan_halves call) × (0 ≡ plan_sum call)
+  unfolding plan_points plan_halves plan_sum plan_mask list_from field linear_values list_where sum_of_squares
+  none_given n = (rw n, rw n, rw n)
+
+  -- nothing stands beside a refusal
+  pub nothing : (x : Refusal) → refusal_answer x ≡ plan_refusal call
+      → (0 ≡ plan_points call) × (0 ∷ 0 ∷ [] ≡ plan_halves call) × (0 ≡ plan_sum call)
+  nothing x e = none_given (refused_not {X = Planned} (Err x) x (plan_refusal call) refl e)
 
   pub outside : rate_or_spacing_outside k d ≡ true → bare 26 ≡ plan_refusal call
   unfolding plan_refusal plan_tests first

@@ -50,11 +50,9 @@ impl Form {
 }
 
 // The word that follows FILE; says so where it is another.
-// `v91::asked::named` looks a word up so too; it stands above this crate, and is one chain.
 fn form_in(e: Ends<'_>, words: &[u8]) -> Result<Form, Failure> {
     let word = parts::nth_part(words, 0, 2);
-    let form = FORMS.iter().find(|row| row.0.eq_ignore_ascii_case(word));
-    form.map(|row| row.1).ok_or_else(|| {
+    parts::named(&FORMS, word).ok_or_else(|| {
         e.fail_name(
             b"after FILE settings takes new, list, put, back or show, not @",
             word,

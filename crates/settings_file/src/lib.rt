@@ -7,6 +7,8 @@ mod saving;
 mod sentences;
 mod table;
 
+ghost use Rattle.std.specs.Prelude.{◌≡◌, take};
+
 pub use asked::{Asked, Command, asked_in};
 use console::{Ends, Failure};
 use sentences::say_changed;
@@ -17,7 +19,9 @@ use words::Text;
 const MOST_BYTES: usize = 131072;
 
 // The first n bytes; all of them where there are no more.
-fn front(bytes: &[u8], n: usize) -> &[u8] {
+fn front(bytes: &[u8], n: usize) -> &[u8]
+    ensures { result.now ≡ take n bytes.now }
+{
     &bytes[0..n.min(bytes.len())]
 }
 
@@ -96,9 +100,10 @@ impl NamedFile<'_> {
 }
 
 // Writes what a CP of so many bits says, in plain words.
-// The pictures of `v91` are written so too, each in a text of its own size: a bound on a closure that names a const parameter is not covered.
+// The pictures of `v91` are written so too, each by way of a buffer of its own size, which the function makes.
 fn write_words(e: Ends<'_>, r: Record, bit_count: usize) -> Result<(), Failure> {
-    let mut text = Text::<8192>::new();
+    let mut room = [0; 8192];
+    let mut text = Text::new(&mut room);
     description::add_record(&mut text, r, bit_count);
     e.write(text.as_slice())
 }

@@ -43,8 +43,8 @@ impl NamedFile<'_> {
 }
 
 // Adds what is changed for a junction: its current setting is put, or gone back to, and the one before it, where it has one, is kept.
-fn add_changed<const N: usize>(
-    text: &mut Text<N>,
+fn add_changed(
+    text: &mut Text<'_>,
     junction: u16,
     back: bool,
     current: Record,
@@ -77,7 +77,8 @@ pub(crate) fn say_changed(
     current: Record,
     previous: Option<Record>,
 ) {
-    let mut text = Text::<256>::new();
+    let mut room = [0; 256];
+    let mut text = Text::new(&mut room);
     add_changed(&mut text, junction, back, current, previous);
     e.tell_text(text.as_slice());
 }

@@ -1,4 +1,6 @@
 // The table of a settings file: a line for each junction, by rising number.
+ghost use Rattle.std.specs.Prelude.{◌≤◌, length, IfOk};
+
 use crate::NamedFile;
 use console::{Ends, Failure};
 use description::{add_rate_words, points_in};
@@ -34,9 +36,10 @@ fn row_at(file: &[u8], at: usize) -> Option<Row> {
 }
 
 // Adds the line of a junction: its rate at the left of the column, M0 to M5, and the rate of the previous setting where there is one.
-fn add_row<const N: usize>(text: &mut Text<N>, row: Row) {
+fn add_row(text: &mut Text<'_>, row: Row) {
     let r = row.current;
-    let mut rate = Text::<32>::new();
+    let mut room = [0; 32];
+    let mut rate = Text::new(&mut room);
     add_rate_words(&mut rate, r);
     text.add_right(8, row.junction as u64);
     text.add_values(b"  ", &[]);
@@ -56,14 +59,17 @@ fn add_row<const N: usize>(text: &mut Text<N>, row: Row) {
 
 // Writes the line of a junction.
 fn write_row(e: Ends<'_>, row: Row) -> Result<(), Failure> {
-    let mut text = Text::<128>::new();
+    let mut room = [0; 128];
+    let mut text = Text::new(&mut room);
     add_row(&mut text, row);
     e.write(text.as_slice())
 }
 
 // Writes the lines of all junctions, and answers how many there are and how many of them have a previous setting. A file has no more
 // junctions than bytes.
-fn write_rows(e: Ends<'_>, file: &[u8]) -> Result<(usize, usize), Failure> {
+fn write_rows(e: Ends<'_>, file: &[u8]) -> Result<(usize, usize), Failure>
+    ensures { IfOk result (λ p. (p.1 ≤ p.0) × (p.0 ≤ length file.now)) }
+{
     let mut kept = 0;
     let mut at = 0;
     for rows in 0..file.len() {

@@ -1,14 +1,7 @@
 // What the words of send, receive and linear ask for.
 use console::{Ends, Failure};
+use parts::named;
 use standard::Law;
-
-// What a table has for a word in small letters or capitals.
-pub(crate) fn named<T: Copy>(table: &[(&[u8], T)], word: &[u8]) -> Option<T> {
-    table
-        .iter()
-        .find(|row| row.0.eq_ignore_ascii_case(word))
-        .map(|row| row.1)
-}
 
 const LAWS: [(&[u8], Law); 4] = [
     (b"mu", Law::Mu),

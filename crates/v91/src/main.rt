@@ -12,8 +12,8 @@ mod planner;
 mod script;
 mod stream;
 
-use asked::named;
 use console::{Ends, Failure, standard_ends, take_words};
+use parts::named;
 
 // Says how the program is used.
 fn help(e: Ends<'_>) -> Result<(), Failure> {
@@ -146,7 +146,8 @@ fn run_words(e: Ends<'_>, words: &[u8]) -> Result<(), Failure> {
 
 // Runs the command of the command line.
 fn run_all(e: Ends<'_>) -> Result<(), Failure> {
-    let words = take_words::<16384>(e.rt);
+    let mut room = [0; 16384];
+    let words = take_words(e.rt, &mut room);
     if words.at == 16384 {
         return Err(e.fail(
             b"the command line is too long; its words have 16,383 bytes at most",

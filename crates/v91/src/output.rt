@@ -10,7 +10,8 @@ use words::Text;
 // Describes the CP file that word 1 names.
 pub(crate) fn cp(e: Ends<'_>, words: &[u8]) -> Result<(), Failure> {
     let cp = load_cp(e, words)?;
-    let mut text = Text::<8192>::new();
+    let mut room = [0; 8192];
+    let mut text = Text::new(&mut room);
     add_record(&mut text, cp.record, cp.bit_count);
     e.write(text.as_slice())
 }
@@ -21,7 +22,8 @@ pub(crate) fn flip(e: Ends<'_>, words: &[u8]) -> Result<(), Failure> {
     if cp.record.drn == 0 {
         return e.all_well(Err(Trouble::Refused(Refusal::FramesAtCleardown)));
     }
-    let mut text = Text::<2048>::new();
+    let mut room = [0; 2048];
+    let mut text = Text::new(&mut room);
     add_flip(&mut text, cp.record);
     e.write(text.as_slice())
 }
@@ -42,7 +44,8 @@ pub(crate) fn dil(e: Ends<'_>, words: &[u8]) -> Result<(), Failure> {
 
 // Shows the example.
 fn show(e: Ends<'_>) -> Result<(), Failure> {
-    let mut text = Text::<8192>::new();
+    let mut room = [0; 8192];
+    let mut text = Text::new(&mut room);
     add_example(&mut text);
     e.write(text.as_slice())
 }

@@ -1,9 +1,10 @@
 // The command plan: what it asks for, what it says where that is refused, and the forms in which a plan is written.
 ghost use Rattle.std.specs.Prelude.{◌≤◌};
 
-use crate::asked::{law_at, named};
+use crate::asked::law_at;
 use console::{Ends, Failure};
 use constellation::Mask;
+use parts::named;
 use picture::Shown;
 use standard::{Law, Planned, Refusal};
 use words::Text;
@@ -115,17 +116,18 @@ fn refuse_ceiling(e: Ends<'_>, w: Wanted<'_>) -> Failure {
 }
 
 // Writes the picture for text.
-// This and the next each fill a text of their own size: a closure over it has a bound that names the size, which gets no proof.
+// This and the next each fill a buffer of their own size.
 fn write_text(e: Ends<'_>, s: Shown<'_>) -> Result<(), Failure> {
-    let mut text = Text::<32768>::new();
+    let mut room = [0; 32768];
+    let mut text = Text::new(&mut room);
     picture::add_text(&mut text, s);
     e.write(text.as_slice())
 }
 
 // Writes the picture as an SVG drawing.
-// Its text has a size of its own too: it stands beside `write_text` for the reason given there.
 fn write_svg(e: Ends<'_>, s: Shown<'_>) -> Result<(), Failure> {
-    let mut text = Text::<65536>::new();
+    let mut room = [0; 65536];
+    let mut text = Text::new(&mut room);
     picture::add_svg(&mut text, s);
     e.write(text.as_slice())
 }

@@ -8,18 +8,18 @@ use std::fs::File;
 use words::Text;
 
 // Adds a character of a line to its words; for a space a 0, where a character stands before.
-fn add_char<const N: usize>(words: &mut Text<N>, c: u8) {
+fn add_char(words: &mut Text<'_>, c: u8) {
     let at = words.at;
-    if at == N || (c == b' ' && (at == 0 || words.bytes[at - 1] == 0)) {
+    if at == words.bytes.len() || (c == b' ' && (at == 0 || words.bytes[at - 1] == 0)) {
         return;
     }
     words.bytes[at] = if c == b' ' { 0 } else { c };
     words.at += 1;
 }
 
-// The words of a line, a 0 behind each; the text is full where there is no room.
-fn words_of(line: &[u8]) -> Text<1024> {
-    let mut words = Text::new();
+// The words of a line, a 0 behind each, in a buffer that is lent; the text is full where there is no room.
+fn words_of<'a>(line: &[u8], room: &'a mut [u8]) -> Text<'a> {
+    let mut words = Text::new(room);
     for c in line {
         add_char(&mut words, *c);
     }
@@ -87,7 +87,8 @@ fn run_line(e: Ends<'_>, line: &[u8]) -> Result<(), Failure> {
     let written = e.write(line);
     let ended = e.write(b"\n");
     written.and(ended)?;
-    let words = words_of(line);
+    let mut room = [0; 1024];
+    let words = words_of(line, &mut room);
     if words.at == 1024 {
         return Err(e.fail(
             b"the line is too long; its words have 1,023 bytes at most",

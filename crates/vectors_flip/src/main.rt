@@ -57,6 +57,13 @@ fn put_changes(k: u32, i: u32, reply: &mut [u8]) -> usize
     1 + (count as usize).min(reply.len() - 1)
 }
 
+// The place in a call of the octet in an interval of a frame.
+fn octet_at(frame: u8, interval: u8) -> usize
+    ensures { result ≡ 130 + (6 * frame + interval) }
+{
+    130 + (6 * frame as usize + interval as usize)
+}
+
 // Answers a call, as its octets are and with the sign of one flipped; nothing where it is too short or of no kind, has too many frames or
 // not the one with that octet.
 fn answer_call(call: &mut [u8], reply: &mut [u8; ROOM]) -> usize
@@ -67,7 +74,7 @@ fn answer_call(call: &mut [u8], reply: &mut [u8; ROOM]) -> usize
     }
     let frames = (call.len() - 130) / 6;
     let interval = call[129];
-    let hit = 130 + 6 * call[128] as usize + interval as usize;
+    let hit = octet_at(call[128], interval);
     if MOST_FRAMES < frames || call.len() <= hit {
         return 0;
     }

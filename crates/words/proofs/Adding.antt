@@ -1,10 +1,12 @@
 -- A text to which characters are added a few at a time. Assumes nothing.
 use mathlib.Core.Path.{◌≡◌, refl, sym, ◌∙◌}
 use Prim.Native.Nat.{ℕ, suc, ◌+◌, ◌-◌, ◌≤◌, ◌<◌, min}
+use mathlib.Core.Bool.{cond}
 use mathlib.Core.List.{List, [], ◌∷◌, ◌++◌}
 use native.Mathlib.Decide.{dec_le}
 use native.Mathlib.Numerals.{add-one}
 use native.Mathlib.Omega.{arith}
+use lib.Dec.{ltb}
 use lib.ListN.{length, set, take, drop, length-set}
 use Rattle.std.proofs.lemmas.List.{take-append-drop, take_more_set, drop-set-lt, append_assoc}
 use borrow.Author.Tests.{lt-ltb, le-ltb}
@@ -15,17 +17,32 @@ unfolding added place_after
 added_none = record { place = refl; text = refl }
 
 -- where there is no room, nothing is added
-added_full : {s : List ℕ} {at : ℕ} (xs : List ℕ) → length s ≤ at → Added s at xs s at
+pub added_full : {s : List ℕ} {at : ℕ} (xs : List ℕ) → length s ≤ at → Added s at xs s at
 unfolding added place_after
 added_full [] h = added_none
 added_full {s} {at} (c ∷ cs) h = let e = le-ltb at (length s) h in record { place = rw e; text = rw e }
+
+-- a place within the text stays within it
+within : (n at : ℕ) (xs : List ℕ) → at ≤ n → place_after n at xs ≤ n
+unfolding place_after
+within n at [] h = h
+within n at (c ∷ cs) h = go (dec_le n at) (within n (suc at) cs)
+  where
+    go : Dec (n ≤ at) → (suc at ≤ n → place_after n (suc at) cs ≤ n) → cond (ltb at n) (place_after n (suc at) cs) at ≤ n
+    go (yes l) ih = rw (le-ltb at n l) h
+    go (no l) ih = rw (lt-ltb at n (omega arith)) (ih (omega arith))
+
+-- what comes of an addition from a place within the text
+pub added-within : {s : List ℕ} {at : ℕ} {xs t : List ℕ} {end : ℕ} → at ≤ length s → (end ≡ place_after (length s) at xs) × (t ≡ added s at xs)
+    → Added s at xs t end × (end ≤ length s)
+added-within {s} {at} {xs} h a = (record { place = a.0; text = a.1 }, rw a.0 (within (length s) at xs h))
 
 full-added : {s : List ℕ} {at : ℕ} {xs t : List ℕ} {end : ℕ} → length s ≤ at → Added s at xs t end → (end ≡ at) × (t ≡ s)
 full-added {s} {at} {xs} h a = let f = added_full xs h in (a.place ∙ sym f.place, a.text ∙ sym f.text)
 
 -- where there is, the first is put, and then the others
 module _ {s : List ℕ} {at : ℕ} {cs t : List ℕ} {end : ℕ} (c : ℕ) (h : at < length s) where
-  added-first : Added (set s at c) (at + 1) cs t end → Added s at (c ∷ cs) t end
+  pub added-first : Added (set s at c) (at + 1) cs t end → Added s at (c ∷ cs) t end
   unfolding added place_after
   added-first a =
       let e = lt-ltb at (length s) h in

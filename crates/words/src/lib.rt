@@ -3,18 +3,17 @@
 
 mod columns;
 
-ghost use Rattle.std.specs.Prelude.{◌≡◌, cond, [], ◌∷◌, map, ◌-◌, ◌≤◌, eqb, get_or, length, take, replicate};
+ghost use Rattle.std.specs.Prelude.{◌≡◌, cond, [], ◌∷◌, map, ◌-◌, ◌≤◌, eqb, get_or, length, take};
 ghost use Rattle.words.specs.Message.{shown as Message·shown};
-ghost use Rattle.words.specs.Message.{decimal, piece, message, Added};
+ghost use Rattle.words.specs.Message.{decimal, piece, message, added, place_after, Added};
 
-// A text of up to N characters, put together piece by piece: `at` is the place behind the last piece. What of a piece has no room is cut off.
-// An array and a place, and no String: the program uses no heap.
+// A text in a buffer that is lent, put together piece by piece: `at` is the place behind the last piece. What of a piece has no room is cut off.
+// A buffer and a place, and no String: the program uses no heap.
 #[derive(Drop)]
-pub struct Text<const N: usize> {
-    pub bytes: [u8; N],
+pub struct Text<'a> {
+    pub bytes: &'a mut [u8],
     pub at: usize,
-    pub ghost whole: { length bytes ≡ N },
-    pub ghost within: { at ≤ N },
+    pub ghost within: { at ≤ length bytes.now },
 }
 
 // A character of a name; a question mark for a control character.
@@ -35,99 +34,136 @@ fn value_at(values: &[u64], k: usize) -> u64
     values.get(k).copied().unwrap_or(0)
 }
 
-impl<const N: usize> Text<N> {
+// Puts a character at a place, where there is room, and returns the place after it.
+fn put(text: &mut [u8], at: usize, c: u8) -> usize
+    ensures { Added text.old at (c ∷ []) text.new result }
+{
+    if at < text.len() {
+        text[at] = c;
+        return at + 1;
+    }
+    at
+}
+
+// Adds characters from a place on, as far as there is room, and returns the place after them. So do those below.
+fn add(text: &mut [u8], at: usize, words: &[u8]) -> usize
+    ensures { Added text.old at words.now text.new result }
+{
+    if text.len() <= at {
+        return at;
+    }
+    let count = words.len().min(text.len() - at);
+    text[at..at + count].copy_from_slice(&words[..count]);
+    at + count
+}
+
+// Adds the characters of a name.
+fn add_shown(text: &mut [u8], at: usize, name: &[u8]) -> usize
+    ensures { Added text.old at (map Message·shown name.now) text.new result }
+{
+    let mut end = at;
+    for c in name {
+        end = put(text, end, shown(*c));
+    }
+    end
+}
+
+// Adds a number in decimal.
+fn add_decimal(text: &mut [u8], at: usize, number: u64) -> usize
+    ensures { Added text.old at (decimal number) text.new result }
+{
+    let mut digits = [0; 20];
+    let n = io::decimal(number, &mut digits);
+    add(text, at, &digits[..n])
+}
+
+// Adds an s, unless there is one of what is named.
+fn add_plural(text: &mut [u8], at: usize, number: u64) -> usize
+    ensures { Added text.old at (cond (eqb number 1) [] (115 ∷ [])) text.new result }
+{
+    if number != 1 {
+        return put(text, at, b's');
+    }
+    at
+}
+
+// Adds what a character of a template stands for, when k numbers are given before it.
+fn add_piece(text: &mut [u8], at: usize, c: u8, values: &[u64], k: usize, name: &[u8]) -> usize
+    ensures { Added text.old at (piece values.now name.now k c) text.new result }
+{
+    match c {
+        b'#' => add_decimal(text, at, value_at(values, k)),
+        b'~' => add_plural(text, at, value_at(values, k.saturating_sub(1))),
+        b'@' => add_shown(text, at, name),
+        _ => put(text, at, c),
+    }
+}
+
+// Adds what a template says with numbers and a name, from any place on and as far as there is room, and returns the place after it.
+pub fn add_message(
+    text: &mut [u8],
+    at: usize,
+    template: &[u8],
+    values: &[u64],
+    name: &[u8],
+) -> usize
+    ensures { (result ≡ place_after (length text.old) at
+        (message template.now values.now name.now))
+        × (text.new ≡ added text.old at
+        (message template.now values.now name.now)) }
+{
+    let mut end = at;
+    let mut k = 0;
+    for c in template {
+        end = add_piece(text, end, *c, values, k, name);
+        k += (*c == b'#') as usize;
+    }
+    end
+}
+
+impl<'a> Text<'a> {
     // A text with nothing in it.
-    pub fn new() -> Self
+    pub fn new(bytes: &'a mut [u8]) -> Self
         ensures place { result.at ≡ 0 }
-        ensures zeros { result.bytes ≡ replicate N 0 }
+        ensures lent { result.bytes.now ≡ bytes.old }
+        ensures same_buffer { result.bytes.ghost_name ≡ bytes.entry.ghost_name }
     {
-        Text {
-            bytes: [0; N],
-            at: 0,
-        }
+        Text { at: 0, bytes }
     }
 
     // What the text says.
     pub fn as_slice(&self) -> &[u8]
-        ensures { result.now ≡ take self.now.at self.now.bytes }
+        ensures { result.now ≡ take self.now.at self.now.bytes.now }
     {
-        // The borrow check takes a part of a slice, and none of an array of N.
-        let whole = &self.bytes[..];
-        &whole[..self.at]
-    }
-
-    // Adds characters.
-    fn add(&mut self, words: &[u8])
-        ensures { Added self.old.bytes self.old.at words.now self.new.bytes self.new.at }
-    {
-        let count = words.len().min(N - self.at);
-        let room = &mut self.bytes[..];
-        room[self.at..self.at + count].copy_from_slice(&words[..count]);
-        self.at += count;
-    }
-
-    // Adds the characters of a name.
-    fn add_shown(&mut self, name: &[u8])
-        ensures { Added self.old.bytes self.old.at (map Message·shown name.now) self.new.bytes self.new.at }
-    {
-        for c in name {
-            self.add(&[shown(*c)]);
-        }
-    }
-
-    // Adds a number in decimal.
-    fn add_decimal(&mut self, number: u64)
-        ensures { Added self.old.bytes self.old.at (decimal number) self.new.bytes self.new.at }
-    {
-        let mut digits = [0; 20];
-        let n = io::decimal(number, &mut digits);
-        self.add(&digits[..n]);
-    }
-
-    // Adds an s, unless there is one of what is named.
-    fn add_plural(&mut self, number: u64)
-        ensures { Added self.old.bytes self.old.at (cond (eqb number 1) [] (115 ∷ [])) self.new.bytes self.new.at }
-    {
-        if number != 1 {
-            self.add(b"s");
-        }
-    }
-
-    // Adds what a character of a template stands for, when k numbers are given before it.
-    fn add_piece(&mut self, c: u8, values: &[u64], k: usize, name: &[u8])
-        ensures { Added self.old.bytes self.old.at (piece values.now name.now k c) self.new.bytes self.new.at }
-    {
-        match c {
-            b'#' => self.add_decimal(value_at(values, k)),
-            b'~' => self.add_plural(value_at(values, k.saturating_sub(1))),
-            b'@' => self.add_shown(name),
-            _ => self.add(&[c]),
-        }
+        &self.bytes[..self.at]
     }
 
     // Adds what a template says with numbers and a name.
     pub fn add_message(&mut self, template: &[u8], values: &[u64], name: &[u8])
-        ensures { Added self.old.bytes self.old.at (message template.now values.now name.now) self.new.bytes
-            self.new.at }
+        ensures same_buffer { self.new.bytes.ghost_name ≡ self.old.bytes.ghost_name }
+        ensures same_length { length self.new.bytes.now ≡ length self.old.bytes.now }
+        ensures adds { Added self.old.bytes.now self.old.at (message template.now values.now name.now)
+            self.new.bytes.now self.new.at }
     {
-        let mut k = 0;
-        for c in template {
-            self.add_piece(*c, values, k, name);
-            k += (*c == b'#') as usize;
-        }
+        self.at = add_message(self.bytes, self.at, template, values, name);
     }
 
     // Adds what a template says with numbers.
     pub fn add_values(&mut self, template: &[u8], values: &[u64])
-        ensures { Added self.old.bytes self.old.at (message template.now values.now []) self.new.bytes self.new.at }
+        ensures same_buffer { self.new.bytes.ghost_name ≡ self.old.bytes.ghost_name }
+        ensures same_length { length self.new.bytes.now ≡ length self.old.bytes.now }
+        ensures adds { Added self.old.bytes.now self.old.at (message template.now values.now [])
+            self.new.bytes.now self.new.at }
     {
         self.add_message(template, values, b"");
     }
 
     // The same with a name and no number.
     pub fn add_name(&mut self, template: &[u8], name: &[u8])
-        ensures { Added self.old.bytes self.old.at (message template.now (0 ∷ []) name.now) self.new.bytes
-            self.new.at }
+        ensures same_buffer { self.new.bytes.ghost_name ≡ self.old.bytes.ghost_name }
+        ensures same_length { length self.new.bytes.now ≡ length self.old.bytes.now }
+        ensures adds { Added self.old.bytes.now self.old.at (message template.now (0 ∷ []) name.now)
+            self.new.bytes.now self.new.at }
     {
         self.add_message(template, &[0], name);
     }

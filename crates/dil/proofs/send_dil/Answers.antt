@@ -6,6 +6,7 @@ use native.Mathlib.Omega.{arith}
 use lib.ListN.{length}
 use Rattle.standard.specs.Dil.{segment, table5}
 use Rattle.standard.specs.declared.Law.{Law}
+use Rattle.standard.proofs.Filling.{part_long}
 use Rattle.dil.proofs.Calls.{with_segments, with_none, with_more, with_long, dil_refused, dil-done}
 use Rattle.dil.proofs.send_dil.Goals as goal
 
@@ -22,15 +23,20 @@ returns-then-octets-lt-DIL_OCTETS c =
 pub loop-n-init : goal.loop-n-init
 loop-n-init c = let a = c.args in with_none a.law a.octets.now
 
-pub segment_of-segment-requires : goal.segment_of-segment-requires
-segment_of-segment-requires c = c.training_symbol.ensures.1
+pub put_segment-requires : goal.put_segment-requires
+put_segment-requires c =
+    let a = c.args in
+    let h = c.loop-n in (
+      c.training_symbol.ensures.1,
+      part_long h.octets (h.n * 12) 12 (room a.law a.octets.now h.octets h.n (omega arith) (omega arith) h.invariant),
+    )
 
 pub loop-n-preserved : goal.loop-n-preserved
 loop-n-preserved c =
     let h = c.loop-n in
     let a = c.args in
     with_more a.law a.octets.now h.octets _ h.n (omega arith) h.invariant
-    (c.copy_from_slice.ensures.after ∙ c.segment_of-segment.ensures ∙ ap (segment table5 a.law) c.training_symbol.ensures.0)
+    (c.put_segment.ensures ∙ ap (segment table5 a.law) c.training_symbol.ensures.0)
 
 pub returns : goal.returns
 returns c =
@@ -39,6 +45,12 @@ returns c =
     let e : h.n ≡ 125 = omega arith in
     let done = dil-done a.law a.octets.now (omega arith) in
     record { refusal = done.0; written = h.invariant ∙ ap (with_segments a.law a.octets.now) e ∙ done.1 }
+
+pub slice_bounds-put_segment-end : goal.slice_bounds-put_segment-end
+slice_bounds-put_segment-end c =
+    let a = c.args in
+    let h = c.loop-n in
+    omega (arith, room a.law a.octets.now h.octets h.n (omega arith) (omega arith) h.invariant)
 
 pub shape_of-octets : goal.shape_of-octets
 shape_of-octets c =

@@ -1,19 +1,15 @@
 -- The entry as it stands, and another start. Assumes nothing.
 use mathlib.Core.Path.{◌≡◌, refl, ap, ◌∙◌}
 use mathlib.Core.List.{List}
-use Prim.Native.Nat.{ℕ, ◌+◌, ◌-◌, ◌≤◌}
+use Prim.Native.Nat.{ℕ, ◌+◌, ◌-◌}
 use native.Mathlib.Omega.{arith}
-use lib.ListN.{length, get_or, take, drop, length-drop}
-use lib.Seq.{length-take-le}
+use lib.ListN.{get_or, take, drop}
 use Rattle.standard.specs.Settings.{little, entry_at}
 use Rattle.theorems_settings.proofs.Entries.{entry_length}
 use Rattle.laying.specs.Laying.{laid}
-use Rattle.laying.proofs.Laying.{mid_laid, entry-laid}
+use Rattle.laying.proofs.Laying.{entry-laid}
 use Rattle.laying.proofs.Joining.{lays_one}
 use Rattle.laying.proofs.Writer.copy_entry.Goals as goal
-
-piece : (s : List ℕ) (at n : ℕ) → at + n ≤ length s → length (take n (drop at s)) ≡ n
-piece s at n h = length-take-le n (drop at s) (simp length-drop (omega arith))
 
 pub returns-clause-lays : goal.returns-clause-lays
 returns-clause-lays c =
@@ -23,9 +19,7 @@ returns-clause-lays c =
     let n : ℕ = 4 + c.from-len.result in
     let e : n ≡ 4 + get_or s (a.at + 3) 0 = ap (λ (k : ℕ). 4 + k) c.from-len.ensures in
     let k : a.at + n - a.at ≡ n = omega arith in
-    let copied = mid_laid p.out.now _ (take n (drop a.at s)) p.spot.to (p.spot.to + n - p.spot.to)
-    (c.copy_from_slice.ensures.after ∙ ap (λ (m : ℕ). take m (drop a.at s)) k)
-    (piece s a.at n (omega arith) ∙ omega arith) in
+    let copied = c.copy_bytes.ensures ∙ ap (λ (m : ℕ). laid p.out.now p.spot.to (take m (drop a.at s))) k in
     record {
       lays = lays_one p.start p.out.now p.spot (entry_at s a.at) _ _
           (c.put_number.ensures

@@ -4,7 +4,6 @@ use Prim.Native.Nat.{ℕ, ◌+◌}
 use native.Mathlib.Omega.{arith}
 use Rattle.standard.specs.Settings.{little, entry}
 use Rattle.laying.specs.Laying.{laid}
-use Rattle.laying.proofs.Laying.{mid_laid}
 use Rattle.laying.proofs.Joining.{five, lays_one}
 use Rattle.laying.proofs.Writer.put_entry.Goals as goal
 
@@ -20,7 +19,7 @@ returns-clause-lays c =
           c.put_number.ensures
           (c.put_number-2.ensures ∙ ap (λ (k : ℕ). laid c.put_number.new.out (p.spot.to + 2) (little 1 k)) c.from.ensures)
           c.put_number-3.ensures
-          (mid_laid _ _ _ _ _ c.copy_from_slice.ensures.after (omega arith))
+          c.copy_bytes.ensures
           c.put_number-4.ensures)
           (omega arith);
       start = refl;

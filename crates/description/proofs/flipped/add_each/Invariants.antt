@@ -1,0 +1,6 @@
+-- The text keeps its length. Assumes nothing.
+use Rattle.std.proofs.Common.{◌≡◌, length}
+use Rattle.description.proofs.flipped.add_each.Given as goal
+
+abbrev pub invariant-loop-i : goal.invariant-loop-i
+invariant-loop-i l = length l.text.bytes.now ≡ length l.initial.text.bytes.now
