@@ -1,5 +1,5 @@
 // Why the system did not do what it was asked, and what is said of it.
-ghost use Rattle.std.specs.Prelude.{◌≡◌};
+ghost use Rattle.std.specs.Prelude.{◌≡◌, length};
 ghost use Rattle.std.specs.IoError.{error_kind, raw_os_error};
 ghost use Rattle.console.specs.SystemErrors.{error_of, FailedWith};
 ghost use Rattle.console.specs.declared.system_error.SystemError.TheVariants.{NameNotText};
@@ -102,7 +102,9 @@ impl SystemError {
     }
 
     // Adds what is said of it.
-    pub(crate) fn add_to(self, text: &mut Text<'_>) {
+    pub(crate) fn add_to(self, text: &mut Text<'_>)
+        ensures { length text.new.bytes.now ≡ length text.old.bytes.now }
+    {
         text.add_values(self.reason(), &[self.number()]);
     }
 }

@@ -7,7 +7,9 @@ use standard::Law;
 use words::Text;
 
 // Adds a sample and a newline.
-fn add_sample(text: &mut Text<'_>, sample: i32) {
+fn add_sample(text: &mut Text<'_>, sample: i32)
+    ensures { length text.new.bytes.now ≡ length text.old.bytes.now }
+{
     if sample < 0 {
         text.add_values(b"-", &[]);
     }

@@ -1,4 +1,6 @@
 // What is said of a settings file: what a call of it is refused for, and what it changed.
+ghost use Rattle.std.specs.Prelude.{◌≡◌, length};
+
 use crate::NamedFile;
 use console::{Ends, Failure};
 use description::add_rate_words;
@@ -49,7 +51,9 @@ fn add_changed(
     back: bool,
     current: Record,
     previous: Option<Record>,
-) {
+)
+    ensures { length text.new.bytes.now ≡ length text.old.bytes.now }
+{
     text.add_values(
         if back {
             b"v91: junction #: back to "

@@ -1,5 +1,5 @@
 // The table of a settings file: a line for each junction, by rising number.
-ghost use Rattle.std.specs.Prelude.{◌≤◌, length, IfOk};
+ghost use Rattle.std.specs.Prelude.{◌≡◌, ◌≤◌, length, IfOk};
 
 use crate::NamedFile;
 use console::{Ends, Failure};
@@ -36,7 +36,9 @@ fn row_at(file: &[u8], at: usize) -> Option<Row> {
 }
 
 // Adds the line of a junction: its rate at the left of the column, M0 to M5, and the rate of the previous setting where there is one.
-fn add_row(text: &mut Text<'_>, row: Row) {
+fn add_row(text: &mut Text<'_>, row: Row)
+    ensures { length text.new.bytes.now ≡ length text.old.bytes.now }
+{
     let r = row.current;
     let mut room = [0; 32];
     let mut rate = Text::new(&mut room);

@@ -1,6 +1,6 @@
 // The commands of a file, one a line, each with its own `< FILE` and `> FILE`. What they write and say goes to the output, so that a run of
 // them can be kept and compared.
-ghost use Rattle.std.specs.Prelude.{◌≤◌, length};
+ghost use Rattle.std.specs.Prelude.{◌≡◌, ◌≤◌, length};
 
 use crate::{run_command, tell_done};
 use console::{Ends, Failure, Sink, Source, SystemError};
@@ -8,7 +8,9 @@ use std::fs::File;
 use words::Text;
 
 // Adds a character of a line to its words; for a space a 0, where a character stands before.
-fn add_char(words: &mut Text<'_>, c: u8) {
+fn add_char(words: &mut Text<'_>, c: u8)
+    ensures { length words.new.bytes.now ≡ length words.old.bytes.now }
+{
     let at = words.at;
     if at == words.bytes.len() || (c == b' ' && (at == 0 || words.bytes[at - 1] == 0)) {
         return;
@@ -18,7 +20,9 @@ fn add_char(words: &mut Text<'_>, c: u8) {
 }
 
 // The words of a line, a 0 behind each, in a buffer that is lent; the text is full where there is no room.
-fn words_of<'a>(line: &[u8], room: &'a mut [u8]) -> Text<'a> {
+fn words_of<'a>(line: &[u8], room: &'a mut [u8]) -> Text<'a>
+    ensures { length result.bytes.now ≡ length room.old }
+{
     let mut words = Text::new(room);
     for c in line {
         add_char(&mut words, *c);
